@@ -1,0 +1,144 @@
+-- Document 01, "Mesh and lent slices": darts and sides, and the mesh's own rows 3 to 8 of the table of refusals. Definitions only.
+-- A mesh is n and the flat list `ts` of its triangles' vertex numbers, as it is lent. A mesh that rows 1 to 8 let through is accepted.
+use Prim.Native.Nat.{ℕ, zero, suc, _+_, _-_, _*_, _/_, _%_}
+use mathlib.Core.Bool.{Bool, true, false, not, _&&_, _||_}
+use mathlib.Core.List.{List, [], _∷_}
+use lib.Dec.{leb, eqb}
+use lib.ListN.{length, getD}
+use Rattle.definitions.specs.Words.{run, upto, all, any, keep, iterate, elem, seek}
+
+-- ---- the exact lengths of the slices that are lent for n vertices
+
+abbrev pub trianglesLength : ℕ → ℕ
+trianglesLength n = 3 * (2 * n - 4)
+
+abbrev pub labelsLength : ℕ → ℕ
+labelsLength n = 3 * (2 * n - 5)
+
+abbrev pub weightsLength : ℕ → ℕ
+weightsLength n = 2 * n - 5
+
+abbrev pub coordinatesLength : ℕ → ℕ
+coordinatesLength n = 3 * n
+
+abbrev pub scratchLength : ℕ → ℕ
+scratchLength n = 24 * n
+
+abbrev pub pointsLength : ℕ → ℕ
+pointsLength n = 2 * n
+
+-- ---- darts
+
+-- Dart 3t + k is corner k of triangle t, and stands for the side that leaves that corner: the triple (a, b, c) has the sides a to b, b to c, c to a.
+unfoldable pub tri : ℕ → ℕ
+tri d = d / 3
+
+-- the next and the previous corner of the same triangle
+unfoldable pub next : ℕ → ℕ
+next d = 3 * (d / 3) + (d % 3 + 1) % 3
+
+unfoldable pub prev : ℕ → ℕ
+prev d = 3 * (d / 3) + (d % 3 + 2) % 3
+
+unfoldable pub corners : ℕ → List ℕ
+unfolding run
+corners t = run (3 * t) 3
+
+module _ (ts : List ℕ) where
+  -- The side of dart d runs from its origin to its tip.
+  unfoldable pub org : ℕ → ℕ
+  org d = getD ts d 0
+
+  unfoldable pub tip : ℕ → ℕ
+  unfolding org next
+  tip d = org (next d)
+
+  unfoldable pub darts : List ℕ
+  unfolding upto
+  darts = upto (length ts)
+
+  -- Triangle 0, the first, is the outer one. The others are inner, numbered from 1 by place.
+  unfoldable pub triangles : List ℕ
+  unfolding upto
+  triangles = upto (length ts / 3)
+
+  unfoldable pub inner : List ℕ
+  unfolding run
+  inner = run 1 (length ts / 3 - 1)
+
+  -- the same side; the opposite side
+  unfoldable pub same : ℕ → ℕ → Bool
+  unfolding org tip
+  same d e = eqb (org d) (org e) && eqb (tip d) (tip e)
+
+  unfoldable pub opposite : ℕ → ℕ → Bool
+  unfolding org tip
+  opposite d e = eqb (org e) (tip d) && eqb (tip e) (org d)
+
+  -- the dart of the opposite side (no dart, where there is none)
+  unfoldable pub opp : ℕ → ℕ
+  unfolding opposite darts seek
+  opp d = seek (opposite d) (length ts) darts
+
+  -- one turn round the origin: from the corner v of (v, a, b) to the corner v of (v, b, c)
+  unfoldable pub rot : ℕ → ℕ
+  unfolding opp prev
+  rot d = opp (prev d)
+
+  -- d, and the darts that further turns lead to: k darts in all
+  unfoldable pub turns : ℕ → ℕ → List ℕ
+  unfolding rot
+  turns zero d = []
+  turns (suc k) d = d ∷ turns k (rot d)
+
+  -- the darts that leave v: one for each triangle at v
+  unfoldable pub leaving : ℕ → List ℕ
+  unfolding org darts keep
+  leaving v = keep (λ d. eqb (org d) v) darts
+
+  -- ---- rows 3 to 8: what each of them finds
+
+  unfoldable pub row3 : ℕ → Bool
+  unfolding any
+  row3 n = any (λ v. leb n v) ts
+
+  -- a vertex twice in a triangle: a side from a vertex to itself
+  unfoldable pub row4 : Bool
+  unfolding org tip darts any
+  row4 = any (λ d. eqb (org d) (tip d)) darts
+
+  -- a side twice: two darts with one side
+  unfoldable pub row5 : Bool
+  unfolding same darts any
+  row5 = any (λ d. any (λ e. not (eqb d e) && same d e) darts) darts
+
+  -- a side lacks its opposite
+  unfoldable pub row6 : Bool
+  unfolding opposite darts any
+  row6 = any (λ d. not (any (opposite d) darts)) darts
+
+  -- The triangles at a vertex are one ring: there are some, and as many turns as there are, begun at the first, meet them all.
+  unfoldable pub ring : List ℕ → Bool
+  unfolding turns all elem
+  ring [] = false
+  ring (d ∷ ds) = let met = turns (length (d ∷ ds)) d in all (λ e. elem e met) (d ∷ ds)
+
+  -- not one ring at a vertex
+  unfoldable pub row7 : ℕ → Bool
+  unfolding ring leaving upto any
+  row7 n = any (λ v. not (ring (leaving v))) (upto n)
+
+  -- the triangles of `reached`, and those that a step across a side joins to them
+  unfoldable pub grow : List ℕ → List ℕ
+  unfolding keep elem any corners opp tri triangles
+  grow reached = keep (λ t. elem t reached || any (λ d. elem (tri (opp d)) reached) (corners t)) triangles
+
+  -- The piece of the outer triangle. As many rounds as there are triangles reach all of it (crate `sphere`, `joined-rounds`).
+  unfoldable pub piece : List ℕ
+  unfolding grow iterate
+  piece = iterate grow (length ts / 3) (0 ∷ [])
+
+  -- several pieces: a triangle that the outer one does not reach
+  unfoldable pub row8 : Bool
+  unfolding piece triangles any elem
+  row8 = let reached = piece in any (λ t. not (elem t reached)) triangles

@@ -1,0 +1,219 @@
+-- Document 01, "Refusals and what stays": the whole outcome of each public call on lent slices, for every input: its answer, and what every lent
+-- slice that it may write holds at the end. Definitions only. (Slices that a call only reads do not change: it has them by `&`.)
+use Prim.Native.Nat.{ℕ, zero, suc, _+_, _*_}
+use mathlib.Core.Path.{_≡_}
+use mathlib.Core.Bool.{Bool, true, false, not, _&&_, _||_, cond}
+use mathlib.Core.List.{List, [], _∷_, _++_, map}
+use mathlib.Core.Option.{Option, none, some}
+use lib.Dec.{leb, ltb, eqb}
+use lib.ListN.{length}
+use lib.IntN.{ℤ, pos, natAbs, _+ℤ_}
+use lib.Signed.{leZ}
+use lib.Ieee.{Float}
+use Rattle.definitions.specs.Words.{upto, all, any, totalAbs}
+use Rattle.definitions.specs.Answers.{Refusal, plain, after, Answer, done, refused, Row, row, ask, verdict}
+use Rattle.definitions.specs.Mesh.{trianglesLength, labelsLength, weightsLength, coordinatesLength, scratchLength, pointsLength, row3, row4, row5, row6, row7, row8}
+use Rattle.definitions.specs.Labels.{outer, labels}
+use Rattle.definitions.specs.Forward.{forward}
+use Rattle.definitions.specs.Backward.{coordinate, backward}
+use Rattle.definitions.specs.Repair.{limit, Ending, mended, stopped, unfinished, Mending, repair}
+use Rattle.definitions.specs.Drawn.{scaleAllowed, snapAll}
+
+-- ---- the rows
+
+-- 1: n outside 3 to the most that is allowed
+unfoldable pub row1 : ℕ → ℕ → Bool
+row1 most n = ltb n 3 || ltb most n
+
+abbrev pub mostVertices : ℕ
+mostVertices = 4096
+
+-- 2: a slice of another length. A lent slice is told by the length that it has and the one that is wanted.
+pub data Slice : Type 0 where
+  slice : ℕ → ℕ → Slice
+
+unfoldable pub wrong : Slice → Bool
+wrong (slice has wanted) = not (eqb has wanted)
+
+unfoldable pub row2 : List Slice → Bool
+unfolding any wrong
+row2 slices = any wrong slices
+
+-- 3 to 8, each over the whole mesh before the next
+unfoldable pub meshRows : ℕ → List ℕ → List Row
+unfolding row3 row4 row5 row6 row7 row8
+meshRows n ts =
+    row 3 (λ _. row3 ts n) ∷ row 4 (λ _. row4 ts) ∷ row 5 (λ _. row5 ts) ∷ row 6 (λ _. row6 ts) ∷ row 7 (λ _. row7 ts n) ∷ row 8 (λ _. row8 ts) ∷ []
+
+-- 9: the weights' absolute values sum past L
+unfoldable pub row9 : List ℤ → Bool
+unfolding totalAbs
+row9 ws = ltb limit (totalAbs ws)
+
+-- 10: a coordinate beyond -L..L
+unfoldable pub row10 : List ℤ → Bool
+unfolding any
+row10 bs = any (λ b. ltb limit (natAbs b)) bs
+
+unfoldable pub eqZ : ℤ → ℤ → Bool
+eqZ a b = leZ a b && leZ b a
+
+-- vertex i is at (x, y, z)
+unfoldable pub stands : List ℤ → ℕ → ℤ → ℤ → ℤ → Bool
+unfolding coordinate eqZ
+stands bs i x y z = eqZ (coordinate bs 0 i) x && eqZ (coordinate bs 1 i) y && eqZ (coordinate bs 2 i) z
+
+-- 11: an outer vertex off its corner; N is b0 of v0
+unfoldable pub row11 : List ℕ → List ℤ → Bool
+unfolding stands outer coordinate
+row11 ts bs =
+    let N = coordinate bs 0 (outer ts 0) in
+    let o = pos 0 in
+    not (stands bs (outer ts 0) N o o && stands bs (outer ts 1) o N o && stands bs (outer ts 2) o o N)
+
+-- 12: a vertex's sum is not N
+unfoldable pub row12 : ℕ → List ℕ → List ℤ → Bool
+unfolding outer coordinate eqZ any upto
+row12 n ts bs =
+    let N = coordinate bs 0 (outer ts 0) in
+    any (λ i. not (eqZ (coordinate bs 0 i +ℤ coordinate bs 1 i +ℤ coordinate bs 2 i) N)) (upto n)
+
+-- ---- what stays
+
+-- Scratch holds zeros after every answer but 1 and 2.
+unfoldable pub scratchAfter : Option ℕ → List ℤ → List ℤ
+scratchAfter none scratch = map (λ _. pos 0) scratch
+scratchAfter (some k) scratch = cond (leb k 2) scratch (map (λ _. pos 0) scratch)
+
+-- ---- the calls. In each, `found` is the number of the first row that finds something.
+
+-- A call on a mesh asks 1, 2 (of the triangles, the scratch and its own slices), 3 to 8, and then its own rows.
+unfoldable pub asked : ℕ → List ℕ → List ℤ → List Slice → List Row → Option ℕ
+unfolding row1 row2 meshRows ask
+asked n ts scratch slices own =
+    let lent = slice (length ts) (trianglesLength n) ∷ slice (length scratch) (scratchLength n) ∷ slices in
+    ask (row 1 (λ _. row1 mostVertices n) ∷ row 2 (λ _. row2 lent) ∷ meshRows n ts ++ own)
+
+-- mesh check
+pub record Checked : Type 0 where
+  pub answer : Answer (Unit {0})
+  pub scratch : List ℤ
+
+unfoldable pub checkCall : ℕ → List ℕ → List ℤ → Checked
+unfolding asked scratchAfter
+checkCall n ts scratch =
+    let found = asked n ts scratch [] [] in
+    record { answer = verdict tt found; scratch = scratchAfter found scratch }
+
+-- labels: `ls` is the lent slice that they are written to
+pub record Labelled : Type 0 where
+  pub answer : Answer (Unit {0})
+  pub labels : List ℕ
+  pub scratch : List ℤ
+
+unfoldable pub labelsCall : ℕ → List ℕ → List ℕ → List ℤ → Labelled
+unfolding asked scratchAfter labels
+labelsCall n ts ls scratch =
+    let found = asked n ts scratch (slice (length ls) (labelsLength n) ∷ []) [] in
+    record {
+      answer = verdict tt found;
+      labels = elim found [ none ↦ labels n ts | some k ↦ ls ];
+      scratch = scratchAfter found scratch;
+    }
+
+-- forward: weights in, coordinates written
+pub record Forwarded : Type 0 where
+  pub answer : Answer (Unit {0})
+  pub coordinates : List ℤ
+  pub scratch : List ℤ
+
+unfoldable pub forwardCall : ℕ → List ℕ → List ℤ → List ℤ → List ℤ → Forwarded
+unfolding asked row9 scratchAfter labels forward
+forwardCall n ts ws bs scratch =
+    let slices = slice (length ws) (weightsLength n) ∷ slice (length bs) (coordinatesLength n) ∷ [] in
+    let found = asked n ts scratch slices (row 9 (λ _. row9 ws) ∷ []) in
+    record {
+      answer = verdict tt found;
+      coordinates = elim found [ none ↦ forward n ts (labels n ts) ws | some k ↦ bs ];
+      scratch = scratchAfter found scratch;
+    }
+
+-- backward: coordinates in, weights written
+pub record Backwarded : Type 0 where
+  pub answer : Answer (Unit {0})
+  pub weights : List ℤ
+  pub scratch : List ℤ
+
+unfoldable pub backwardCall : ℕ → List ℕ → List ℤ → List ℤ → List ℤ → Backwarded
+unfolding asked row9 row10 row11 row12 scratchAfter labels backward
+backwardCall n ts bs ws scratch =
+    let slices = slice (length bs) (coordinatesLength n) ∷ slice (length ws) (weightsLength n) ∷ [] in
+    let new = backward ts (labels n ts) bs in
+    let own = row 10 (λ _. row10 bs) ∷ row 11 (λ _. row11 ts bs) ∷ row 12 (λ _. row12 n ts bs) ∷ row 9 (λ _. row9 new) ∷ [] in
+    let found = asked n ts scratch slices own in
+    record {
+      answer = verdict tt found;
+      weights = elim found [ none ↦ new | some k ↦ ws ];
+      scratch = scratchAfter found scratch;
+    }
+
+-- Repair: weights in and rewritten, coordinates written; it answers the count of raises. 13 adds the count so far, and leaves the weights as after
+-- the last full raise and their coordinates written. (0, no number of the table, stands for the loop's fuel, which never runs out.)
+pub record Repaired : Type 0 where
+  pub answer : Answer ℕ
+  pub weights : List ℤ
+  pub coordinates : List ℤ
+  pub scratch : List ℤ
+
+unfoldable pub repairAnswer : Ending → ℕ → Answer ℕ
+repairAnswer mended count = done count
+repairAnswer stopped count = refused (after count)
+repairAnswer unfinished count = refused (plain 0)
+
+unfoldable pub repairCall : ℕ → List ℕ → List ℤ → List ℤ → List ℤ → Repaired
+unfolding asked row9 scratchAfter labels forward repair repairAnswer
+repairCall n ts ws bs scratch =
+    let slices = slice (length ws) (weightsLength n) ∷ slice (length bs) (coordinatesLength n) ∷ [] in
+    let found = asked n ts scratch slices (row 9 (λ _. row9 ws) ∷ []) in
+    let ls = labels n ts in
+    let end = repair n ts ls ws in
+    record {
+      answer = elim found [ none ↦ repairAnswer (end .ending) (length (end .raises)) | some k ↦ refused (plain k) ];
+      weights = elim found [ none ↦ end .weights | some k ↦ ws ];
+      coordinates = elim found [ none ↦ forward n ts ls (end .weights) | some k ↦ bs ];
+      scratch = scratchAfter found scratch;
+    }
+
+-- Snapping of a list of points: it does not examine the mesh and takes no scratch.
+pub record Snapped : Type 0 where
+  pub answer : Answer (Unit {0})
+  pub coordinates : List ℤ
+
+unfoldable pub snapCall : ℕ → List Float → ℕ → List ℤ → Snapped
+unfolding row1 row2 ask scaleAllowed snapAll
+snapCall n shares r bs =
+    let lent = slice (length shares) (pointsLength n) ∷ slice (length bs) (coordinatesLength n) ∷ [] in
+    let rows = row 1 (λ _. row1 mostVertices n) ∷ row 2 (λ _. row2 lent) ∷ row 14 (λ _. not (scaleAllowed r)) ∷ [] in
+    elim (ask rows) [
+      | some k ↦ record { answer = refused (plain k); coordinates = bs }
+      | none ↦
+          elim (snapAll r shares) [
+            | refused why ↦ record { answer = refused why; coordinates = bs }
+            | done new ↦ record { answer = done tt; coordinates = new }
+          ]
+    ]
+
+-- ---- what is accepted
+
+-- a mesh: the rows 1 to 8 find nothing in it
+abbrev pub Accepted : ℕ → List ℕ → Type 0
+Accepted n ts = (row1 mostVertices n ≡ false) × (length ts ≡ trianglesLength n) × (ask (meshRows n ts) ≡ none)
+
+-- weights of a mesh on n vertices: 2n - 5 numbers that 9 lets through
+abbrev pub AcceptedWeights : ℕ → List ℤ → Type 0
+AcceptedWeights n ws = (length ws ≡ weightsLength n) × (row9 ws ≡ false)
+
+-- coordinates of a mesh with labels ls: 3n numbers that 10, 11 and 12 let through and whose weights, by the backward map, 9 lets through
+abbrev pub AcceptedCoordinates : ℕ → List ℕ → List ℕ → List ℤ → Type 0
+AcceptedCoordinates n ts ls bs =
+    (length bs ≡ coordinatesLength n) × (row10 bs ≡ false) × (row11 ts bs ≡ false) × (row12 n ts bs ≡ false) × (row9 (backward ts ls bs) ≡ false)

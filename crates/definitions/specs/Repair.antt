@@ -1,0 +1,91 @@
+-- Document 01, "Repair": area numbers, the raise, and the loop that raises. Definitions only.
+use Prim.Native.Nat.{ℕ, zero, suc, _-_, _*_}
+use mathlib.Core.Bool.{Bool, true, false, not, _&&_, cond}
+use mathlib.Core.List.{List, [], _∷_, _++_}
+use mathlib.Core.Option.{Option, none, some}
+use lib.Dec.{ltb}
+use lib.ListN.{length, set}
+use lib.IntN.{ℤ, pos, _+ℤ_, _-ℤ_, _*ℤ_}
+use lib.Signed.{leZ}
+use Rattle.definitions.specs.Words.{keep, first, totalAbs}
+use Rattle.definitions.specs.Mesh.{org, inner}
+use Rattle.definitions.specs.Labels.{corner}
+use Rattle.definitions.specs.Forward.{weight, forward}
+use Rattle.definitions.specs.Backward.{coordinate}
+
+-- L, the limit on the sum of the weights' absolute values and on each coordinate
+abbrev pub limit : ℕ
+limit = 1_073_741_823
+
+unfoldable pub maxZ : ℤ → ℤ → ℤ
+maxZ a b = cond (leZ a b) b a
+
+module _ (ts ls : List ℕ) (bs : List ℤ) where
+  -- coordinate c at the corner of triangle t that has label a
+  unfoldable pub value : ℕ → ℕ → ℕ → ℤ
+  unfolding coordinate org corner
+  value c t a = coordinate bs c (org ts (corner ls t a))
+
+  -- the area number D of triangle t, with corners p, q, r labelled 0, 1, 2
+  unfoldable pub area : ℕ → ℤ
+  unfolding value
+  area t =
+      (value 0 t 1 -ℤ value 0 t 0) *ℤ (value 1 t 2 -ℤ value 1 t 0)
+      -ℤ (value 1 t 1 -ℤ value 1 t 0) *ℤ (value 0 t 2 -ℤ value 0 t 0)
+
+  -- flat or turned
+  unfoldable pub bad : ℕ → Bool
+  unfolding area
+  bad t = leZ (area t) (pos 0)
+
+  -- the greater coordinate c at the corners with labels a and b, less that at the corner with label c
+  unfoldable pub lack : ℕ → ℕ → ℕ → ℕ → ℤ
+  unfolding value maxZ
+  lack t c a b = maxZ (value c t a) (value c t b) -ℤ value c t c
+
+  -- 1 + m
+  unfoldable pub raise : ℕ → ℤ
+  unfolding lack maxZ
+  raise t = pos 1 +ℤ maxZ (lack t 0 1 2) (maxZ (lack t 1 0 2) (lack t 2 0 1))
+
+-- How the loop ended: no triangle is bad any more; the next raise would break 9; or its fuel ran out, which never happens on an accepted mesh: no
+-- triangle is raised twice, and the fuel is one more than there are inner triangles (crate `demand`, `ends`).
+pub data Ending : Type 0 where
+  mended stopped unfinished : Ending
+
+-- the weights at the end, and the triangles that were raised, in order
+pub record Mending : Type 0 where
+  pub ending : Ending
+  pub weights : List ℤ
+  pub raises : List ℕ
+
+-- the weights with x added to that of triangle t
+unfoldable pub addTo : List ℤ → ℕ → ℤ → List ℤ
+unfolding weight
+addTo ws t x = set ws (t - 1) (weight ws t +ℤ x)
+
+module _ (n : ℕ) (ts ls : List ℕ) where
+  -- While some inner triangle is bad, the lowest-numbered one is raised.
+  unfoldable pub mending : ℕ → List ℤ → List ℕ → Mending
+  unfolding forward bad raise addTo first inner totalAbs
+  mending zero ws rs = record { ending = unfinished; weights = ws; raises = rs }
+  mending (suc k) ws rs =
+      let bs = forward n ts ls ws in
+      elim (first (bad ts ls bs) (inner ts)) [
+        | none ↦ record { ending = mended; weights = ws; raises = rs }
+        | some t ↦
+            let ws′ = addTo ws t (raise ts ls bs t) in
+            elim (ltb limit (totalAbs ws′)) [
+              | true ↦ record { ending = stopped; weights = ws; raises = rs }
+              | false ↦ mending k ws′ (rs ++ (t ∷ []))
+            ]
+      ]
+
+  unfoldable pub repair : List ℤ → Mending
+  unfolding mending
+  repair ws = mending (2 * n - 4) ws []
+
+-- the inner triangles whose weights differ between two lists
+unfoldable pub changed : List ℕ → List ℤ → List ℤ → List ℕ
+unfolding keep inner weight
+changed ts ws ws′ = keep (λ t. not (leZ (weight ws t) (weight ws′ t) && leZ (weight ws′ t) (weight ws t))) (inner ts)
