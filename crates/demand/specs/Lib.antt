@@ -1,0 +1,3 @@
+-- An accepted mesh always gets labels, and the third demand.
+pub mod Labels
+pub mod Demand

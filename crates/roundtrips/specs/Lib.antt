@@ -1,0 +1,6 @@
+-- Forward and backward undo each other, and either colour of a side gives its slope.
+pub mod Drawings
+pub mod Rows
+pub mod Slopes
+pub mod Maps
+pub mod RoundTrips
