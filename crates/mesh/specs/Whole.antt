@@ -1,0 +1,219 @@
+-- The steps of the mesh check put together: what scratch holds after each, and which row it has found. Assumes nothing.
+use Prim.Native.Nat.{ℕ, _*_, _/_, _≤_, _<_}
+use mathlib.Core.Path.{_≡_, sym, ap, _∙_}
+use mathlib.Core.Bool.{Bool, true, false}
+use mathlib.Core.List.{List, map}
+use mathlib.Core.Option.{none, some}
+use native.Mathlib.Omega.{arith}
+use native.Mathlib.Decide.{decLt}
+use lib.ListN.{length, List·getD-eq-default}
+use lib.IntN.{ℤ, pos}
+use Rattle.definitions.specs.Mesh.{trianglesLength, org, opp, row3, row4, row5, row6, row7, row8}
+use Rattle.definitions.specs.Answers.{ask}
+use Rattle.definitions.specs.Refusals.{mostVertices, meshRows, Accepted as AcceptedMesh}
+use Rattle.sphere.specs.Rows.{row3-means, row5-means}
+use Rattle.sphere.specs.Sides.{Sides, sides}
+use Rattle.sphere.specs.Sphere.{Sphere}
+use Rattle.sphere.specs.Accept.{range-row1, accepted-sphere}
+use Rattle.sphere.specs.Asking.{clean-ask, mesh-7, mesh-8}
+use Rattle.tables.specs.Tables.{Tables, view, blank, view-blank, withOp, withMark, mark-in}
+use Rattle.checkwork.specs.Buckets.{fill, fill-buckets, fill-mark, Bucketed, blank-counts, Rooted, bucketed-rooted}
+use Rattle.checkwork.specs.Twice.{scanAll, Darts, scanAll-is, scanAll-darts}
+use Rattle.checkwork.specs.Join.{joinAll-is, joinAll-opp}
+use Rattle.checkwork.specs.Around.{brokenAll, brokenAll-is}
+use Rattle.checkwork.specs.Reach.{explore-is}
+use Rattle.sides.specs.Room.{Room, room, Filling}
+use Rattle.sides.specs.Turns.{Scanned, AllMatched, joinedAll}
+use Rattle.pieces.specs.Turns.{Marks, Split}
+use Rattle.mesh.specs.declared.MeshAnswer.{MeshAnswer}
+use Rattle.mesh.specs.declared.MeshAnswer.the-variants.{Accepted, Refused}
+
+-- ---- what is lent, and what is left there
+
+-- Rows 1 and 2 have found nothing. (Ten words a vertex are used; the scratch that is lent has 24.)
+pub record Lent (n : ℕ) (ts : List ℕ) (words : ℕ) : Type 0 where
+  pub least : 3 ≤ n
+  pub most : n ≤ 4096
+  pub triangles : length ts ≡ trianglesLength n
+  pub room : 10 * n ≤ words
+
+-- the opposites, the number of darts of each vertex, and a dart of each
+pub record Opened (ts : List ℕ) (t : Tables) : Type 0 where
+  pub opposites : (d : ℕ) → d < length ts → t .op d ≡ opp ts d
+  pub rooted : Rooted ts t
+
+-- rows 3 to 6 have found nothing
+pub record Paired (n : ℕ) (ts : List ℕ) (t : Tables) : Type 0 where
+  pub none3 : row3 ts n ≡ false
+  pub none4 : row4 ts ≡ false
+  pub none5 : row5 ts ≡ false
+  pub none6 : row6 ts ≡ false
+  pub tables : Opened ts t
+
+-- no row of the mesh has found anything; d is the number of darts
+pub record Accepting (n : ℕ) (ts : List ℕ) (t : Tables) (d : ℕ) : Type 0 where
+  pub clean : ask (meshRows n ts) ≡ none
+  pub darts : d ≡ length ts
+  pub tables : Opened ts t
+
+-- what the answer says: of the rows 3 to 6, and of all rows
+abbrev pub SaidOfSides : ℕ → List ℕ → List ℤ → MeshAnswer → Type 0
+SaidOfSides n ts s (Accepted d) = Paired n ts (view s) × (d ≡ length ts)
+SaidOfSides n ts s (Refused k) = ask (meshRows n ts) ≡ some k
+
+abbrev pub Said : ℕ → List ℕ → List ℤ → MeshAnswer → Type 0
+Said n ts s (Accepted d) = Accepting n ts (view s) d
+Said n ts s (Refused k) = ask (meshRows n ts) ≡ some k
+
+-- ---- room
+
+-- so many numbers make whole triangles
+whole : (n : ℕ) (ts : List ℕ) {words : ℕ} → Lent n ts words → (length ts ≡ 3 * (length ts / 3)) × (length ts / 3 ≤ 2 * n) × (0 < length ts / 3)
+whole n ts L = omega (arith, L .triangles, L .least)
+
+-- where row 3 finds nothing every corner has a vertex, and what stands past the end reads as one
+small : (n : ℕ) (ts : List ℕ) → 3 ≤ n → row3 ts n ≡ false → (d : ℕ) → org ts d < n
+unfolding org
+small n ts h e d =
+    elim (decLt d (length ts)) [
+      | yes l ↦ row3-means ts n .0 e d l
+      | no l ↦ let p : length ts ≤ d = omega arith in rw (List·getD-eq-default ts 0 p) (omega arith)
+    ]
+
+pub has-room : (n : ℕ) (ts : List ℕ) (words : ℕ) → Lent n ts words → row3 ts n ≡ false → Room ts words
+has-room n ts words L e = let w = whole n ts L in room n (length ts / 3) words ts (small n ts (L .least) e) (w .0) (w .1) (L .room)
+
+pub can-fill : (n : ℕ) (ts : List ℕ) (s s₁ : List ℤ) → Lent n ts (length s) → row3 ts n ≡ false → length s₁ ≡ length s → s₁ ≡ map (λ _. pos 0) s → Filling ts s₁
+can-fill n ts s s₁ L e l b =
+    let v : view s₁ ≡ blank = ap view b ∙ view-blank s in
+    record {
+      space = rw l (has-room n ts (length s) L e);
+      count = rw v (blank-counts ts);
+      few = omega (arith, L .triangles, L .most);
+    }
+
+pub has-marks : (n : ℕ) (ts : List ℕ) (words : ℕ) → Lent n ts words → Marks (length ts / 3) words × (0 < length ts / 3)
+has-marks n ts words L =
+    let w = whole n ts L in
+    (record { at = λ t h. omega (arith, L .room, mark-in n t (omega (arith, w .1))); few = omega (arith, L .most, w .1) }, w .2)
+
+-- ---- rows 5 and 6
+
+-- the lists are there
+record Listed (ts : List ℕ) (t : Tables) : Type 0 where
+  buckets : Bucketed ts t
+  marks : Darts ts (t .mark)
+
+listed : (n : ℕ) (ts : List ℕ) (words : ℕ) (s s₁ s₂ : List ℤ) → Lent n ts words → s₁ ≡ map (λ _. pos 0) s → view s₂ ≡ fill ts (length ts) (view s₁)
+    → Listed ts (view s₂)
+unfolding blank
+listed n ts words s s₁ s₂ L b f =
+    let v : view s₂ ≡ fill ts (length ts) blank = f ∙ ap (λ (t : Tables). fill ts (length ts) t) (ap view b ∙ view-blank s) in
+    let w = whole n ts L in
+    rw v record {
+      buckets = fill-buckets ts;
+      marks = λ x. rw (ap (λ (g : ℕ → ℕ). g x) (fill-mark ts (length ts) blank)) (omega arith);
+    }
+
+listed-mark : (ts : List ℕ) (t : Tables) (m : ℕ → ℕ) → Darts ts m → Listed ts t → Listed ts (withMark m t)
+unfolding withMark
+listed-mark ts t m D l = record { buckets = l .buckets; marks = D }
+
+-- the walks that mark tell row 5, and leave the lists
+module _ (n : ℕ) (ts : List ℕ) (words : ℕ) (L : Lent n ts words) (none3 : row3 ts n ≡ false) (s s₁ s₂ s₃ : List ℤ) (b : s₁ ≡ map (λ _. pos 0) s)
+    (f : view s₂ ≡ fill ts (length ts) (view s₁)) where
+  filled : Listed ts (view s₂)
+  filled = listed n ts words s s₁ s₂ L b f
+
+  pub found5 : (r : Bool) → Scanned ts n s₂ s₃ r → r ≡ row5 ts
+  found5 r S = S .found ∙ scanAll-is ts (view s₂) (filled .buckets) n (view s₂ .mark) (filled .marks) (small n ts (L .least) none3)
+
+  scanned : (r : Bool) → Scanned ts n s₂ s₃ r → Listed ts (view s₃)
+  scanned r S =
+      let D = scanAll-darts ts (view s₂) (filled .buckets) n 0 (view s₂ .mark) (filled .marks) in
+      rw (S .same) (listed-mark ts (view s₂) (scanAll ts (view s₂) n 0 (view s₂ .mark) .mark) D filled)
+
+  -- those that look for opposites tell row 6, and where none is lacking leave them
+  module _ (none4 : row4 ts ≡ false) (none5 : row5 ts ≡ false) (q : Bool) (S : Scanned ts n s₂ s₃ q) (s₄ : List ℤ) where
+    pub found6 : (r : Bool) → AllMatched ts n s₃ s₄ r → r ≡ row6 ts
+    found6 r M =
+        let l = scanned q S in
+        M .lacks
+        ∙ joinAll-is ts (length ts / 3) (whole n ts L .0) (row5-means ts .0 none5) (view s₃) (l .buckets) (view s₃ .mark) (l .marks) n (small n ts (L .least) none3)
+
+    pub paired : AllMatched ts n s₃ s₄ false → Paired n ts (view s₄)
+    unfolding withOp withMark
+    paired M =
+        let l = scanned q S in
+        let once = row5-means ts .0 none5 in
+        let j = joinedAll ts n (view s₃) in
+        let O = joinAll-opp ts (length ts / 3) (whole n ts L .0) once (view s₃) (l .buckets) (view s₃ .mark) (l .marks) n (small n ts (L .least) none3) (sym (M .lacks)) in
+        let R = bucketed-rooted ts (view s₃) (l .buckets) in
+        record {
+          none3 = none3;
+          none4 = none4;
+          none5 = none5;
+          none6 = sym (found6 false M);
+          tables = rw (M .same) record {
+            opposites = O;
+            rooted = record { number = R .number; dart = R .dart };
+          };
+        }
+
+-- ---- rows 7 and 8
+
+module _ (n : ℕ) (ts : List ℕ) (words : ℕ) (L : Lent n ts words) (s : List ℤ) (P : Paired n ts (view s)) where
+  theSides : Sides n (length ts / 3) (org ts) (opp ts)
+  theSides = sides ts (length ts / 3) (whole n ts L .0) n (P .none3) (P .none4) (P .none5) (P .none6)
+
+  pub found7 : (r : Bool) → r ≡ brokenAll (view s) n 0 → r ≡ row7 ts n
+  found7 r e =
+      e ∙ brokenAll-is ts (length ts / 3) (whole n ts L .0) n theSides (view s) (P .tables .rooted) (P .tables .opposites)
+
+  pub refuse7 : (r : Bool) → r ≡ brokenAll (view s) n 0 → r ≡ true → ask (meshRows n ts) ≡ some 7
+  refuse7 r e t = mesh-7 n ts (P .none3) (P .none4) (P .none5) (P .none6) (sym (found7 r e) ∙ t)
+
+  module _ (s′ : List ℤ) (r : Bool) (S : Split (length ts / 3) s s′ r) where
+    found8 : r ≡ row8 ts
+    found8 =
+        let w = whole n ts L in
+        S .found
+        ∙ explore-is ts n theSides (view s .op) (λ e h. P .tables .opposites e (omega (arith, w .0))) (S .mark) (w .2) (S .zeros)
+
+    pub refuse8 : (q : Bool) → q ≡ brokenAll (view s) n 0 → q ≡ false → r ≡ true → ask (meshRows n ts) ≡ some 8
+    refuse8 q e f t = mesh-8 n ts (P .none3) (P .none4) (P .none5) (P .none6) (sym (found7 q e) ∙ f) (sym found8 ∙ t)
+
+    pub accept : (q : Bool) → q ≡ brokenAll (view s) n 0 → q ≡ false → r ≡ false → (d : ℕ) → d ≡ length ts → Accepting n ts (view s′) d
+    unfolding withMark
+    accept q e f t d l = record {
+      clean = clean-ask n ts record {
+        clean3 = P .none3;
+        clean4 = P .none4;
+        clean5 = P .none5;
+        clean6 = P .none6;
+        clean7 = sym (found7 q e) ∙ f;
+        clean8 = sym found8 ∙ t;
+      };
+      darts = l;
+      tables = rw (S .same) record {
+        opposites = P .tables .opposites;
+        rooted = record { number = P .tables .rooted .number; dart = P .tables .rooted .dart };
+      };
+    }
+
+-- ---- an answer taken apart
+
+pub said-refused : (n : ℕ) (ts : List ℕ) (s : List ℤ) (r : MeshAnswer) (k : ℕ) → r ≡ Refused k → SaidOfSides n ts s r → Said n ts s r
+said-refused n ts s r k e S = let p : SaidOfSides n ts s (Refused k) = rw e at S in rw e p
+
+pub said-paired : (n : ℕ) (ts : List ℕ) (s : List ℤ) (r : MeshAnswer) (d : ℕ) → r ≡ Accepted d → SaidOfSides n ts s r → Paired n ts (view s) × (d ≡ length ts)
+said-paired n ts s r d e S = rw e at S
+
+-- ---- what the calls that go on from here have: an accepted mesh, and so a sphere
+
+pub accepting-mesh : {n : ℕ} {ts : List ℕ} {words : ℕ} {t : Tables} {d : ℕ} → Lent n ts words → Accepting n ts t d → AcceptedMesh n ts
+accepting-mesh {n} L A = (range-row1 mostVertices n (L .least) (L .most), L .triangles, A .clean)
+
+pub accepting-sphere : {n : ℕ} {ts : List ℕ} {words : ℕ} {t : Tables} {d : ℕ} → Lent n ts words → Accepting n ts t d
+    → Sphere n (length ts / 3) (org ts) (opp ts)
+accepting-sphere {n} {ts} L A = accepted-sphere n ts (accepting-mesh L A)

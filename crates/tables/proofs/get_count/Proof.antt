@@ -1,0 +1,25 @@
+-- `tables::get_count` meets its contract, from that of `peek`. Past the end both sides are 0. Assumes nothing.
+use native.Mathlib.Omega.{arith}
+use Rattle.tables.specs.Tables.{view, countAt, count-past}
+use borrow.Author.Needs.{needs}
+use Rattle.tables.proofs.get_count.Statement.{statement}
+use Rattle.tables.proofs.get_count.Tie as tie
+
+mul-peek : tie.Need-mul-peek
+mul-peek c = search needs
+
+add-peek : tie.Need-add-peek
+add-peek c = search needs
+
+peek-requires : tie.Need-peek-requires
+peek-requires c κs = search needs
+
+returns : tie.Need-returns
+unfolding view countAt
+returns c = (c .peek .ensures .0, c .peek .ensures .1)
+
+returns-2 : tie.Need-returns-2
+returns-2 c = (count-past (c .before .args .s .now) (c .before .args .v) (c .if1 .left), omega arith)
+
+pub get-count-spec : {M : Type 1} → statement M
+get-count-spec = tie.close (tie.spec mul-peek add-peek peek-requires returns returns-2)

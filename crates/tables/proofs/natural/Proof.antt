@@ -1,0 +1,23 @@
+-- `tables::natural` meets its contract: the test of the sign decides which case of the definition it is. Assumes nothing.
+use native.Mathlib.Omega.{arith}
+use mir.Facts.{toZ-ofZ, fits-natAbs}
+use Rattle.tables.specs.Tables.{value-below, value-least, value-small}
+use Rattle.tables.proofs.natural.Statement.{statement}
+use Rattle.tables.proofs.natural.Tie as tie
+
+cast-result : tie.Need-cast-result
+cast-result c =
+    let e = toZ-ofZ (c .before .fits .x) in
+    rw e (value-least (c .before .args .x) (rw e at (c .if1 .left)) .0, fits-natAbs tt (c .before .fits .x))
+
+returns : tie.Need-returns
+returns c = (value-below (c .before .args .x) (rw (toZ-ofZ (c .before .fits .x)) at (c .if1 .taken)), omega arith)
+
+returns-2 : tie.Need-returns-2
+returns-2 c =
+    let e = toZ-ofZ (c .before .fits .x) in
+    let q = value-least (c .before .args .x) (rw e at (c .if1 .left)) .1 in
+    rw e (q, rw q (value-small (c .before .args .x) (c .before .fits .x)))
+
+pub natural-spec : {M : Type 1} → statement M
+natural-spec = tie.close (tie.spec cast-result returns returns-2)
