@@ -1,0 +1,52 @@
+-- `peelcode::leave_all` meets its contract: what is left of the turns comes to all of them. Assumes nothing.
+use native.Mathlib.Omega.{arith}
+use Prim.Native.Nat.{_-_}
+use mathlib.Core.Path.{_∙_}
+use Rattle.peelcode.specs.Steps.{Turning, turning-none, room-kept, wide-kept, all-more, all-over}
+use Rattle.peelcode.proofs.leave_all.Statement.{statement}
+use Rattle.peelcode.proofs.leave_all.Tie as tie
+
+abbrev Inv-loop : tie.InvT-loop
+Inv-loop triangles s₀ n low₀ i₀ s low i = Turning triangles n s₀ s i low
+
+abbrev μ-loop : tie.MeasureT-loop
+μ-loop triangles s₀ n low₀ i₀ s low i = n - i
+
+loop-holds : tie.Need-loop-holds Inv-loop μ-loop
+loop-holds c = turning-none _ (c .before .args .n) (c .before .args .s .now)
+
+add-loop : tie.Need-add-loop Inv-loop μ-loop
+add-loop c = omega (arith, c .loop .inv .within, c .before .before .pre .1 .small)
+
+turn-requires : tie.Need-turn-requires Inv-loop μ-loop
+turn-requires c κs = (room-kept (c .before .before .loop .inv .long) (c .before .before .before .before .pre .0), wide-kept (c .before .before .loop .inv .long) (c .before .before .before .before .pre .1), omega (arith, c .before .loop-test .taken))
+
+add-i : tie.Need-add-i Inv-loop μ-loop
+add-i c = omega (arith, c .before .before .before .before .loop .inv .within, c .before .before .before .before .before .before .pre .1 .small)
+
+loop-less : tie.Need-loop-less Inv-loop μ-loop
+loop-less c = omega (arith, c .before .before .before .loop-test .taken)
+
+loop-again : tie.Need-loop-again Inv-loop μ-loop
+loop-again c = record { long = c .before .turn .kept .1 .0 ∙ c .before .before .before .before .loop .inv .long; within = omega (arith, c .before .before .before .loop-test .taken); rest = all-more _ (c .before .before .before .before .before .before .args .n) (c .before .before .before .before .loop .i) (c .before .before .before .before .loop .low) _ _ (c .before .turn .result) _ (c .before .before .before .loop-test .taken) (c .before .turn .ensures) (c .before .before .before .before .loop .inv .rest) }
+
+same-length : tie.Need-same-length Inv-loop μ-loop
+same-length c = c .before .loop .inv .long
+
+returns : tie.Need-returns Inv-loop μ-loop
+returns c = all-over _ (c .before .before .before .args .n) (c .before .loop .i) (c .before .loop .low) _ _ (c .loop-test .left) (c .before .loop .inv .rest)
+
+pub leave-all-spec : {M : Type 1} → statement M
+leave-all-spec =
+    tie.close
+    (tie.spec
+    Inv-loop
+    μ-loop
+    loop-holds
+    add-loop
+    turn-requires
+    add-i
+    loop-less
+    loop-again
+    same-length
+    returns)

@@ -1,0 +1,41 @@
+-- `peelcode::scan` meets its contract: the scan from the vertex that the loop stands at finds what the whole scan finds. Assumes nothing.
+use native.Mathlib.Omega.{arith}
+use Prim.Native.Nat.{_-_}
+use mathlib.Core.Path.{_≡_, refl, _∙_, sym}
+use Rattle.tables.specs.Tables.{view}
+use Rattle.peelwork.specs.Work.{scan}
+use Rattle.peelcode.specs.Steps.{scan-over, scan-more, scan-none}
+use Rattle.peelcode.proofs.scan.Statement.{statement}
+use Rattle.peelcode.proofs.scan.Tie as tie
+
+abbrev Inv-loop : tie.InvT-loop
+Inv-loop triangles s n low v₀ v = scan triangles (view s) (n - v) v ≡ scan triangles (view s) (n - low) low
+
+abbrev μ-loop : tie.MeasureT-loop
+μ-loop triangles s n low v₀ v = n - v
+
+loop-holds : tie.Need-loop-holds Inv-loop μ-loop
+loop-holds c = refl
+
+can-requires : tie.Need-can-requires Inv-loop μ-loop
+can-requires c κs = omega (arith, c .loop-test .taken, c .before .before .before .pre)
+
+returns : tie.Need-returns Inv-loop μ-loop
+returns c = scan-over _ _ (c .before .before .before .before .before .args .n) (c .before .before .before .loop .v) _ (c .before .before .loop-test .taken) (sym (c .if1 .taken) ∙ c .before .can .ensures) (c .before .before .before .loop .inv)
+
+add-v : tie.Need-add-v Inv-loop μ-loop
+add-v c = omega arith
+
+loop-less : tie.Need-loop-less Inv-loop μ-loop
+loop-less c = omega arith
+
+loop-again : tie.Need-loop-again Inv-loop μ-loop
+loop-again c = scan-more _ _ (c .before .before .before .before .before .args .n) (c .before .before .before .loop .v) _ (c .before .before .loop-test .taken) (sym (c .if1 .left) ∙ c .before .can .ensures) (c .before .before .before .loop .inv)
+
+returns-2 : tie.Need-returns-2 Inv-loop μ-loop
+returns-2 c = scan-none _ _ (c .before .before .before .args .n) (c .before .loop .v) _ (c .loop-test .left) (c .before .loop .inv)
+
+pub scan-spec : {M : Type 1} → statement M
+scan-spec =
+    tie.close
+    (tie.spec Inv-loop μ-loop loop-holds can-requires returns add-v loop-less loop-again returns-2)

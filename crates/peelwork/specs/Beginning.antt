@@ -1,0 +1,234 @@
+-- The start of the stage: with the opposites in the tables, its stores make them those of a peeling that has removed nothing. Assumes nothing.
+use Prim.Native.Nat.{ℕ, zero, suc, _+_, _*_, _/_, _≤_, _<_}
+use mathlib.Core.Path.{_≡_, refl, sym, ap, _∙_}
+use mathlib.Core.Logic.{inl, inr}
+use mathlib.Core.Bool.{Bool, false, _||_}
+use mathlib.Core.List.{List, [], _∷_, List·Memᴰ·not-nil, List·Memᴰ·cases-cons, List·Memᴰ·eq-of-singleton}
+use native.Mathlib.Omega.{arith}
+use native.Mathlib.Decide.{ℕ-discrete}
+use lib.Dec.{eqb}
+use lib.ListN.{length}
+use borrow.Author.Tests.{lt-ltb, le-ltb, eq-eqb, ne-eqb}
+use Rattle.definitions.specs.Words.{any, elem}
+use Rattle.definitions.specs.Mesh.{next, org, tip, opp, leaving}
+use Rattle.laws.specs.Lists.{_∈_, keep-none}
+use Rattle.sphere.specs.Sphere.{Sphere}
+use Rattle.sphere.specs.Turns.{tip-opp}
+use Rattle.peeling.specs.Inside.{three, org-opp0, org-opp1, org-opp2, proper01, proper12, proper20}
+use Rattle.tables.specs.Tables.{Tables, upd, upd-same, upd-other, setOp, setHead, setCount, setMark}
+use Rattle.peelwork.specs.Work.{behind, word, border, wipe, outerMarks, outerEdges, outerLabels, begin}
+use Rattle.peelwork.specs.Counts.{tip-is, met, joins, met-add, joins-none, joins-both, joins-one}
+use Rattle.peelwork.specs.Entering.{Marked, mark-same, mark-other}
+use Rattle.peelwork.specs.Passing.{code, Coded}
+use Rattle.peelwork.specs.Fanning.{marked-same}
+use Rattle.peelwork.specs.Standing.{on, Stood}
+
+-- ---- the marks are wiped, and nothing else is
+
+wipe-op : (k v : ℕ) (t : Tables) (d : ℕ) → wipe k v t .op d ≡ t .op d
+unfolding wipe setMark
+wipe-op zero v t d = refl
+wipe-op (suc k) v t d = wipe-op k (suc v) (setMark (2 * v) 0 t) d
+
+wipe-beside : (k v : ℕ) (t : Tables) (w : ℕ) → w < v → wipe k v t .mark (2 * w) ≡ t .mark (2 * w)
+unfolding wipe
+wipe-beside zero v t w h = refl
+wipe-beside (suc k) v t w h = wipe-beside k (suc v) (setMark (2 * v) 0 t) w (omega arith) ∙ mark-other (2 * v) (2 * w) 0 t (omega arith)
+
+wipe-mark : (k v : ℕ) (t : Tables) (w : ℕ) → v ≤ w → w < v + k → wipe k v t .mark (2 * w) ≡ 0
+unfolding wipe
+wipe-mark zero v t w h l = absurd (omega arith)
+wipe-mark (suc k) v t w h l =
+    elim (ℕ-discrete w v) [
+      | yes q ↦ rw q (wipe-beside k (suc v) (setMark (2 * v) 0 t) v (omega arith) ∙ mark-same (2 * v) 0 t)
+      | no q ↦ wipe-mark k (suc v) (setMark (2 * v) 0 t) w (omega arith) (omega arith)
+    ]
+
+module _ (n : ℕ) (ts : List ℕ) (s : Sphere n (length ts / 3) (org ts) (opp ts)) (len : 3 * (length ts / 3) ≡ length ts) (few : length ts < 32000) where
+  abbrev T : ℕ
+  T = length ts / 3
+
+  abbrev o : ℕ → ℕ
+  o = org ts
+
+  -- the frontier's darts at the start
+  abbrev D : List ℕ
+  D = opp ts 0 ∷ opp ts 1 ∷ []
+
+  -- its vertices, in the order of the outer triangle's corners
+  abbrev F : ℕ → Bool
+  F u = eqb u (o 0) || (eqb u (o 1) || (eqb u (o 2) || false))
+
+  three-in : (d : ℕ) → d < 3 → d < 3 * T
+  three-in d h = omega (arith, three s)
+
+  tip0 : tip ts 0 ≡ o 1
+  unfolding tip next
+  tip0 = refl
+
+  tip1 : tip ts 1 ≡ o 2
+  unfolding tip next
+  tip1 = refl
+
+  tip2 : tip ts 2 ≡ o 0
+  unfolding tip next
+  tip2 = refl
+
+  F-on : (u : ℕ) → F u ≡ on ts D u
+  unfolding elem any
+  F-on u = rw (org-opp2 s, org-opp0 s, org-opp1 s)
+
+  -- ---- each of them has the two others as neighbours
+
+  join01 : joins ts (o 0) (o 1) ≡ 1
+  join01 = joins-one n ts s len (o 0) (o 1) 0 (three-in 0 (omega arith)) refl tip0
+
+  join12 : joins ts (o 1) (o 2) ≡ 1
+  join12 = joins-one n ts s len (o 1) (o 2) 1 (three-in 1 (omega arith)) refl tip1
+
+  join20 : joins ts (o 2) (o 0) ≡ 1
+  join20 = joins-one n ts s len (o 2) (o 0) 2 (three-in 2 (omega arith)) refl tip2
+
+  join-self : (w : ℕ) → joins ts w w ≡ 0
+  join-self w = joins-none ts w w (λ d h e q. s .proper d (omega arith) (e ∙ sym q ∙ tip-is ts d))
+
+  met-none : (w : ℕ) → met ts (λ u. false) w ≡ 0
+  unfolding met
+  met-none w = ap length (keep-none (λ d. false) (leaving ts w) (λ d m. refl))
+
+  met-is : (w : ℕ) → met ts F w ≡ joins ts w (o 0) + (joins ts w (o 1) + (joins ts w (o 2) + 0))
+  met-is w =
+      let a = met-add ts (λ u. eqb u (o 1) || (eqb u (o 2) || false)) (o 0) w (rw (ne-eqb (o 0) (o 1) (proper01 s), ne-eqb (o 0) (o 2) (λ e. proper20 s (sym e)))) in
+      let b = met-add ts (λ u. eqb u (o 2) || false) (o 1) w (rw (ne-eqb (o 1) (o 2) (proper12 s))) in
+      let c = met-add ts (λ u. false) (o 2) w refl in
+      omega (arith, a, b, c, met-none w)
+
+  met0 : met ts F (o 0) ≡ 2
+  met0 = omega (arith, met-is (o 0), join-self (o 0), join01, joins-both n ts s len (o 0) (o 2), join20)
+
+  met1 : met ts F (o 1) ≡ 2
+  met1 = omega (arith, met-is (o 1), join-self (o 1), join12, joins-both n ts s len (o 1) (o 0), join01)
+
+  met2 : met ts F (o 2) ≡ 2
+  met2 = omega (arith, met-is (o 2), join-self (o 2), join20, joins-both n ts s len (o 2) (o 1), join12)
+
+  -- ---- the tables
+
+  module _ (t : Tables) (opposed : (d : ℕ) → d < length ts → t .op d ≡ opp ts d) where
+    abbrev t₁ : Tables
+    t₁ = outerMarks ts (wipe n 0 t)
+
+    marks₁ : Marked n ts F t₁
+    unfolding outerMarks
+    marks₁ w h =
+        let a = wipe n 0 t in
+        let b = setMark (2 * o 0) 3 a in
+        let c = setMark (2 * o 1) 3 b in
+        elim (ℕ-discrete w (o 2)) [
+          | yes q ↦ rw (q, ne-eqb (o 2) (o 0) (proper20 s), ne-eqb (o 2) (o 1) (λ e. proper12 s (sym e)), eq-eqb (o 2) (o 2) refl) (mark-same (2 * o 2) 3 c ∙ omega (arith, met2))
+          | no q ↦
+              mark-other (2 * o 2) (2 * w) 3 c (omega arith) ∙ elim (ℕ-discrete w (o 1)) [
+                | yes r ↦ rw (r, ne-eqb (o 1) (o 0) (λ e. proper01 s (sym e)), eq-eqb (o 1) (o 1) refl) (mark-same (2 * o 1) 3 b ∙ omega (arith, met1))
+                | no r ↦
+                    mark-other (2 * o 1) (2 * w) 3 b (omega arith) ∙ elim (ℕ-discrete w (o 0)) [
+                      | yes p ↦ rw (p, eq-eqb (o 0) (o 0) refl) (mark-same (2 * o 0) 3 a ∙ omega (arith, met0))
+                      | no p ↦ rw (ne-eqb w (o 0) p, ne-eqb w (o 1) r, ne-eqb w (o 2) q) (mark-other (2 * o 0) (2 * w) 3 a (omega arith) ∙ wipe-mark n 0 t w (omega arith) (omega arith))
+                    ]
+              ]
+        ]
+
+    op₁ : (d : ℕ) → d < length ts → t₁ .op d ≡ opp ts d
+    unfolding outerMarks setMark
+    op₁ d h = wipe-op n 0 t d ∙ opposed d h
+
+    behind₁ : (d : ℕ) → d < length ts → behind t₁ d ≡ opp ts d
+    unfolding behind
+    behind₁ d h = omega (arith, op₁ d h, s .dart d (omega arith), len, few)
+
+    abbrev x : ℕ
+    x = opp ts 0
+
+    abbrev y : ℕ
+    y = opp ts 1
+
+    abbrev t₂ : Tables
+    t₂ = outerEdges ts t₁
+
+    edges-are : t₂ ≡ border ts y (border ts x t₁)
+    unfolding outerEdges
+    edges-are = rw (behind₁ 0 (omega (arith, three-in 0 (omega arith))), behind₁ 1 (omega (arith, three-in 1 (omega arith))))
+
+    tipx : tip ts x ≡ o 0
+    tipx = tip-is ts x ∙ tip-opp s 0 (three-in 0 (omega arith))
+
+    tipy : tip ts y ≡ o 1
+    tipy = tip-is ts y ∙ tip-opp s 1 (three-in 1 (omega arith))
+
+    heads₂ : (d : ℕ) → d ∈ D → t₂ .head (o d) ≡ d
+    unfolding border setHead setCount
+    heads₂ d m =
+        rw edges-are (elim (List·Memᴰ·cases-cons m) [
+          | inl q ↦ rw q (upd-other (o y) (o x) y (upd (o x) x (t₁ .head)) (λ e. proper12 s (sym (org-opp0 s) ∙ e ∙ org-opp1 s)) ∙ upd-same (o x) x (t₁ .head))
+          | inr k ↦ let q : d ≡ y = List·Memᴰ·eq-of-singleton k in rw q (upd-same (o y) y (upd (o x) x (t₁ .head)))
+        ])
+
+    counts₂ : (d : ℕ) → d ∈ D → t₂ .count (tip ts d) ≡ d
+    unfolding border setHead setCount
+    counts₂ d m =
+        rw edges-are (elim (List·Memᴰ·cases-cons m) [
+          | inl q ↦ rw q (upd-other (tip ts y) (tip ts x) y (upd (tip ts x) x (t₁ .count)) (λ e. proper01 s (sym tipx ∙ e ∙ tipy)) ∙ upd-same (tip ts x) x (t₁ .count))
+          | inr k ↦ let q : d ≡ y = List·Memᴰ·eq-of-singleton k in rw q (upd-same (tip ts y) y (upd (tip ts x) x (t₁ .count)))
+        ])
+
+    op₂ : (d : ℕ) → d < length ts → t₂ .op d ≡ opp ts d
+    unfolding border setHead setCount
+    op₂ d h = ap (λ (u : Tables). u .op d) edges-are ∙ op₁ d h
+
+    marks₂ : Marked n ts F t₂
+    unfolding border setHead setCount
+    marks₂ w h = ap (λ (u : Tables). u .mark (2 * w)) edges-are ∙ marks₁ w h
+
+    abbrev t₃ : Tables
+    t₃ = outerLabels t₂
+
+    behind₂ : (d : ℕ) → d < length ts → behind t₂ d ≡ opp ts d
+    unfolding behind
+    behind₂ d h = omega (arith, op₂ d h, s .dart d (omega arith), len, few)
+
+    outer-code : (d : ℕ) → d < 3 → code [] d ≡ 3
+    unfolding code
+    outer-code d h = rw (lt-ltb d 3 h)
+
+    inner-code : (d : ℕ) → 3 ≤ d → code [] d ≡ 0
+    unfolding code elem any
+    inner-code d h = rw (le-ltb d 3 h)
+
+    coded₃ : Coded ts [] t₃
+    unfolding outerLabels setOp
+    coded₃ d h =
+        let a = upd 0 (word (behind t₂ 0) 3) (t₂ .op) in
+        let b = upd 1 (word (behind t₂ 1) 3) a in
+        elim (ℕ-discrete d 2) [
+          | yes q ↦ rw (q, outer-code 2 (omega arith)) (upd-same 2 (word (behind t₂ 2) 3) b ∙ omega (arith, behind₂ 2 (omega (arith, three-in 2 (omega arith)))))
+          | no q ↦
+              upd-other 2 d (word (behind t₂ 2) 3) b q ∙ elim (ℕ-discrete d 1) [
+                | yes r ↦ rw (r, outer-code 1 (omega arith)) (upd-same 1 (word (behind t₂ 1) 3) a ∙ omega (arith, behind₂ 1 (omega (arith, three-in 1 (omega arith)))))
+                | no r ↦
+                    upd-other 1 d (word (behind t₂ 1) 3) a r ∙ elim (ℕ-discrete d 0) [
+                      | yes p ↦ rw (p, outer-code 0 (omega arith)) (upd-same 0 (word (behind t₂ 0) 3) (t₂ .op) ∙ omega (arith, behind₂ 0 (omega (arith, three-in 0 (omega arith)))))
+                      | no p ↦ upd-other 0 d (word (behind t₂ 0) 3) (t₂ .op) p ∙ omega (arith, op₂ d h, inner-code d (omega arith))
+                    ]
+              ]
+        ]
+
+    -- the tables of a peeling that has removed nothing
+    pub begun : Stood n ts [] D [] (begin ts n t)
+    unfolding begin outerLabels setOp
+    begun =
+        record {
+          coded = coded₃;
+          marked = marked-same n ts F (on ts D) t₃ F-on marks₂;
+          heads = heads₂;
+          counts = counts₂;
+          old = λ z m. absurd (List·Memᴰ·not-nil m);
+        }

@@ -1,0 +1,180 @@
+-- The work on the tables follows the peeling of the definition, vertex by vertex, to its end. Assumes nothing.
+use Prim.Native.Nat.{ℕ, zero, suc, _+_, _-_, _*_, _/_, _≤_, _<_}
+use mathlib.Core.Path.{_≡_, refl, sym, ap, _∙_}
+use mathlib.Core.Logic.{_⊎_, inl, inr}
+use mathlib.Core.Bool.{true, false}
+use mathlib.Core.List.{List, [], _∷_, _++_, append-assoc, append-nil, List·Memᴰ·head, List·Memᴰ·tail, List·Memᴰ·cases-cons, Memᴰ·append-right}
+use mathlib.Core.Option.{some}
+use native.Mathlib.Omega.{arith}
+use native.Mathlib.Decide.{ℕ-discrete, decLt}
+use lib.ListN.{length, length-map}
+use borrow.Author.Tests.{lt-ltb}
+use Rattle.definitions.specs.Words.{iterate}
+use Rattle.definitions.specs.Mesh.{next, org, opp}
+use Rattle.definitions.specs.Labels.{Peeling, leaver, remove, step}
+use Rattle.laws.specs.Lists.{_∈_, clash, decIn, upto-in, length-upto}
+use Rattle.laws.specs.Counting.{Distinct, cons, distinct-within, distinct-upto}
+use Rattle.sphere.specs.Sphere.{Sphere}
+use Rattle.peeling.specs.Inside.{Inside, Inv, Lonely, two}
+use Rattle.peeling.specs.Fan.{Leaves, gs, D′, leaves}
+use Rattle.peeling.specs.Leaving.{goes-on, empty, left-over}
+use Rattle.peeling.specs.Peel.{Peel, over, trace, passes, final}
+use Rattle.peeling.specs.Vertices.{state, remove-is}
+use Rattle.peeling.specs.Run.{run}
+use Rattle.stage.specs.Stage.{Stored}
+use Rattle.tables.specs.Tables.{Tables}
+use Rattle.peelwork.specs.Work.{Work, can, leave, turn, leaveAll}
+use Rattle.peelwork.specs.Passing.{Coded}
+use Rattle.peelwork.specs.Standing.{Stood}
+use Rattle.peelwork.specs.Stepping.{head-is, count-is, head-kept, count-kept, order-here, order-kept, stands}
+use Rattle.peelwork.specs.Choosing.{scan-finds, chosen, quiet}
+
+step-is : (ts : List ℕ) (p : Peeling) (w : ℕ) → leaver ts p ≡ some w → step ts p ≡ remove ts p w
+unfolding step
+step-is ts p w t = rw (t, step)
+
+pub all-suc : (ts : List ℕ) (n k i : ℕ) (w : Work) → leaveAll ts n (suc k) i w ≡ leaveAll ts n k (suc i) (turn ts n i w)
+unfolding leaveAll
+all-suc ts n k i w = refl
+
+module _ (n : ℕ) (ts : List ℕ) (s : Sphere n (length ts / 3) (org ts) (opp ts)) (len : 3 * (length ts / 3) ≡ length ts) (few : length ts < 32000) where
+  abbrev T : ℕ
+  T = length ts / 3
+
+  abbrev o : ℕ → ℕ
+  o = org ts
+
+  abbrev op : ℕ → ℕ
+  op = opp ts
+
+  -- From tables t, of a peeling that has removed R, has the frontier's darts D and has passed P, to tables t′ after k vertices more, the i-th and so on.
+  pub record Followed (k i : ℕ) (R D P : List ℕ) (t t′ : Tables) : Type 0 where
+    pub peel : Peel n T o op R D
+    pub ends : iterate (step ts) k (state ts R D P) ≡ state ts (final peel) (2 ∷ []) (P ++ passes peel)
+    pub coded : Coded ts (P ++ passes peel) t′
+    pub stored : Stored n T o op t′ i (trace peel)
+    pub heads : (r : ℕ) → r ∈ R → t′ .head r ≡ t .head r
+    pub counts : (r : ℕ) → r ∈ R → t′ .count r ≡ t .count r
+    pub order : (j : ℕ) → j < i → t′ .mark (2 * j + 1) ≡ t .mark (2 * j + 1)
+
+  -- no further vertex
+  ended : (i : ℕ) (R X P : List ℕ) (t : Tables) → X ≡ 2 ∷ [] → ((d : ℕ) → Inside T o R d → ⊥) → ((w : ℕ) → w < n → (w ∈ R → ⊥) → (w ≡ o (op 2)) ⊎ (w ≡ o (next (op 2))))
+      → Coded ts P t → i ≡ n - 2 → Followed 0 i R X P t t
+  unfolding iterate passes final trace
+  ended i R X P t q a b c e =
+      rw q (record {
+        peel = over a b;
+        ends = ap (λ (x : List ℕ). state ts R (2 ∷ []) x) (sym (append-nil P));
+        coded = rw (append-nil P) c;
+        stored = e;
+        heads = λ r m. refl;
+        counts = λ r m. refl;
+        order = λ j h. refl;
+      })
+
+  -- all but v0 and v1 have left
+  two-left : (R : List ℕ) → ((w : ℕ) → w < n → (w ∈ R → ⊥) → (w ≡ o (op 2)) ⊎ (w ≡ o (next (op 2)))) → n ≤ length R + 2
+  two-left R h =
+      let c = distinct-within (distinct-upto n) (o (op 2) ∷ o (next (op 2)) ∷ R) (λ w m. elim (decIn w R) [
+        | yes k ↦ List·Memᴰ·tail (List·Memᴰ·tail k)
+        | no a ↦ elim (h w (upto-in n m) a) [ inl t ↦ List·Memᴰ·head t | inr t ↦ List·Memᴰ·tail (List·Memᴰ·head t) ]
+      ]) in
+      omega (arith, c, length-upto n)
+
+  module _ (k i : ℕ) (R P A : List ℕ) (e e′ : ℕ) (B : List ℕ) (v : Inv n T o op R (A ++ e ∷ e′ ∷ B)) (lo : Lonely T o op R (A ++ e ∷ e′ ∷ B) (o e))
+      (ch : leaver ts (state ts R (A ++ e ∷ e′ ∷ B) P) ≡ some (o e)) (w : Work) (st : Stood n ts R (A ++ e ∷ e′ ∷ B) P (w .tables))
+      (able : can ts (w .tables) (o e) ≡ true) (below : o e < n) (first : (x : ℕ) → x < o e → can ts (w .tables) x ≡ false)
+      (low : (x : ℕ) → x < w .low → can ts (w .tables) x ≡ false) where
+    abbrev D : List ℕ
+    D = A ++ e ∷ e′ ∷ B
+
+    abbrev hs : List ℕ
+    hs = gs s R A e e′ B v
+
+    abbrev E : List ℕ
+    E = D′ s R A e e′ B v
+
+    lv : Leaves T o op R D e e′ hs E
+    lv = leaves s R A e e′ B v lo
+
+    abbrev w₁ : Work
+    w₁ = leave ts i (o e) (w .tables)
+
+    -- the work's choice is the definition's
+    turned : turn ts n i w ≡ w₁
+    unfolding turn
+    turned =
+        let up : w .low ≤ o e = elim (decLt (o e) (w .low)) [ yes h ↦ clash able (low (o e) h) | no h ↦ omega arith ] in
+        let found = scan-finds ts (w .tables) (o e) (n - w .low) (w .low) up (omega (arith, up, below)) able first in
+        rw (found, lt-ltb (o e) n below)
+
+    stepped : step ts (state ts R D P) ≡ state ts (o e ∷ R) E (P ++ hs)
+    stepped = step-is ts (state ts R D P) (o e) ch ∙ remove-is n ts s len R P A e e′ B v lo
+
+    onward : Followed k (suc i) (o e ∷ R) E (P ++ hs) (w₁ .tables) (leaveAll ts n k (suc i) w₁ .tables) → Followed (suc k) i R D P (w .tables) (leaveAll ts n (suc k) i w .tables)
+    unfolding iterate passes final trace
+    onward r =
+        rw (all-suc ts n k i w, turned) (record {
+          peel = Peel.step e e′ hs v lv (r .peel);
+          ends = rw stepped (r .ends ∙ ap (λ (x : List ℕ). state ts (final (r .peel)) (2 ∷ []) x) (append-assoc P hs (passes (r .peel))));
+          coded = rw (append-assoc P hs (passes (r .peel))) at (r .coded);
+          stored = (
+            r .order i (omega arith) ∙ order-here n ts s len few v lv st i,
+            r .heads (o e) (List·Memᴰ·head refl) ∙ head-kept n ts s len few v lv st i (o e) (List·Memᴰ·head refl) ∙ head-is n ts s len few v lv st i,
+            r .counts (o e) (List·Memᴰ·head refl) ∙ count-kept n ts s len few v lv st i (o e) (List·Memᴰ·head refl) ∙ count-is n ts s len few v lv st i,
+            r .stored,
+          );
+          heads = λ x m. r .heads x (List·Memᴰ·tail m) ∙ head-kept n ts s len few v lv st i x (List·Memᴰ·tail m);
+          counts = λ x m. r .counts x (List·Memᴰ·tail m) ∙ count-kept n ts s len few v lv st i x (List·Memᴰ·tail m);
+          order = λ j h. r .order j (omega arith) ∙ order-kept n ts s len few v lv st i j (omega arith);
+        })
+
+    e-in : e ∈ op 2 ∷ D
+    e-in = List·Memᴰ·tail (Memᴰ·append-right A (List·Memᴰ·head refl))
+
+    next-stands : Stood n ts (o e ∷ R) E (P ++ hs) (w₁ .tables)
+    next-stands = stands n ts s len few v lv st i
+
+    -- with or without a further vertex
+    one-step : Distinct R → ((x : ℕ) → x ∈ R → x < n) → length R ≡ i → n ≡ length R + 2 + suc k
+        → (Inv n T o op (o e ∷ R) E → Distinct (o e ∷ R) → ((x : ℕ) → x ∈ o e ∷ R → x < n) → length (o e ∷ R) ≡ suc i → n ≡ length (o e ∷ R) + 2 + k
+        → Stood n ts (o e ∷ R) E (P ++ hs) (w₁ .tables) → ((x : ℕ) → x < w₁ .low → can ts (w₁ .tables) x ≡ false)
+        → Followed k (suc i) (o e ∷ R) E (P ++ hs) (w₁ .tables) (leaveAll ts n k (suc i) w₁ .tables))
+        → Followed (suc k) i R D P (w .tables) (leaveAll ts n (suc k) i w .tables)
+    unfolding leaveAll
+    one-step d b m c more =
+        elim (ℕ-discrete (next e) (op 2)) [
+          | no ne ↦
+              onward (more (goes-on s v lv ne) (cons {x = o e} (v .this e e-in .from) d) (λ x h. elim (List·Memᴰ·cases-cons h) [ inl t ↦ rw t below | inr y ↦ b x y ]) (omega arith) (omega arith) next-stands (quiet n ts s len few v lv st i first))
+          | yes la ↦
+              let l = left-over s v lv la in
+              let z : k ≡ 0 = omega (arith, two-left (o e ∷ R) l) in
+              onward (rw z (ended (suc i) (o e ∷ R) E (P ++ hs) (w₁ .tables) (lv .ends la) (empty s v lv la) l (next-stands .coded) (omega arith)))
+        ]
+
+  -- ---- the run
+
+  -- with a vertex that can leave the run goes on
+  pub follow : (k i : ℕ) (R D P : List ℕ) (w : Work) → Inv n T o op R D → Distinct R → ((x : ℕ) → x ∈ R → x < n) → length R ≡ i → n ≡ length R + 2 + k
+      → Stood n ts R D P (w .tables) → ((x : ℕ) → x < w .low → can ts (w .tables) x ≡ false) → Followed k i R D P (w .tables) (leaveAll ts n k i w .tables)
+  unfolding iterate
+  follow zero i R D P w v d b m c st low =
+      let r = run n ts s len zero R D P v d b c in
+      absurd (omega (arith, two s v, length-map D o, ap (λ (p : Peeling). length (p .frontier)) (r .ends)))
+  follow (suc k) i R D P w v d b m c st low =
+      let x = run n ts s len (suc k) R D P v d b c .moves 0 (omega arith) in
+      let h = chosen n ts s len v st (x .0) (x .1) in
+      at (h .A) (h .e) (h .e′) (h .B) D (h .parts) v (h .alone) (h .least) st (h .can-leave) (h .below) (h .first) (λ X Q w′ u y z l q s′ low′. follow k (suc i) (o (h .e) ∷ R) X Q w′ u y z l q s′ low′)
+    where
+      at : (A : List ℕ) (e e′ : ℕ) (B X : List ℕ) → X ≡ A ++ e ∷ e′ ∷ B → Inv n T o op R X → Lonely T o op R X (o e) → leaver ts (state ts R X P) ≡ some (o e) → Stood n ts R X P (w .tables)
+          → can ts (w .tables) (o e) ≡ true → o e < n → ((x : ℕ) → x < o e → can ts (w .tables) x ≡ false)
+          → ((X Q : List ℕ) (w′ : Work) → Inv n T o op (o e ∷ R) X → Distinct (o e ∷ R) → ((x : ℕ) → x ∈ o e ∷ R → x < n) → length (o e ∷ R) ≡ suc i → n ≡ length (o e ∷ R) + 2 + k
+          → Stood n ts (o e ∷ R) X Q (w′ .tables) → ((x : ℕ) → x < w′ .low → can ts (w′ .tables) x ≡ false) → Followed k (suc i) (o e ∷ R) X Q (w′ .tables) (leaveAll ts n k (suc i) w′ .tables))
+          → Followed (suc k) i R X P (w .tables) (leaveAll ts n (suc k) i w .tables)
+      at A e e′ B X t u l h s₁ able below first more =
+          let v₁ = rw t at u in
+          let lo = rw t at l in
+          let ch = rw t at h in
+          let s₂ = rw t at s₁ in
+          rw t (one-step k i R P A e e′ B v₁ lo ch w s₂ able below first low d b m c
+          (more (D′ s R A e e′ B v₁) (P ++ gs s R A e e′ B v₁) (leave ts i (o e) (w .tables))))
