@@ -1,0 +1,1 @@
+// No code: what the loops of the forward map do to the lent coordinates is said and proved in specs/.

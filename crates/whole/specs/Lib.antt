@@ -1,0 +1,2 @@
+-- What the operations on whole numbers in 64 bits rest on.
+pub mod Whole

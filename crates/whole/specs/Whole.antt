@@ -1,0 +1,77 @@
+-- Whole numbers that fit 64 bits, by their absolute values, and the tests of the code. Assumes nothing.
+use Prim.Native.Nat.{ℕ, zero, suc, _+_, _*_, _≤_, _<_, _^_}
+use mathlib.Core.Path.{_≡_, refl}
+use mathlib.Core.Bool.{true, false}
+use native.Mathlib.Omega.{arith}
+use lib.Dec.{T}
+use lib.IntN.{ℤ, pos, negsuc, negℤ, natAbs, _+ℤ_, _-ℤ_, _*ℤ_}
+use lib.Signed.{mag, ltZ, leZ, nonNeg}
+use mir.Syntax.{w64}
+use mir.Val.{SFits, toZ, ofZ}
+use mir.Facts.{toZ-ofZ}
+use borrow.Author.Tests.{le-ltb}
+use Rattle.laws.specs.Integers.{up, dn, ≡z, zabs, z+, z-}
+use Rattle.definitions.specs.Refusals.{eqZ}
+
+-- a number with an absolute value below half the range fits
+pub fits-abs : (z : ℤ) → natAbs z < 2 ^ 63 → SFits w64 z
+fits-abs (pos n) h = record { sfits = h }
+fits-abs (negsuc n) h = record { sfits = omega arith }
+
+-- absolute values of a sum, a difference, a product
+abs-from : (z : ℤ) (p q : ℕ) → up z + q ≡ p + dn z → natAbs z ≤ p + q
+unfolding up dn
+abs-from (pos n) p q e = omega arith
+abs-from (negsuc n) p q e = omega arith
+
+pub abs-plus : (a b : ℤ) → natAbs (a +ℤ b) ≤ natAbs a + natAbs b
+abs-plus a b = omega (arith, abs-from (a +ℤ b) (up a + up b) (dn a + dn b) (omega (arith, z+ a b)), zabs a, zabs b)
+
+pub abs-minus : (a b : ℤ) → natAbs (a -ℤ b) ≤ natAbs a + natAbs b
+abs-minus a b = omega (arith, abs-from (a -ℤ b) (up a + dn b) (dn a + up b) (omega (arith, z- a b)), zabs a, zabs b)
+
+abs-neg : (n : ℕ) → natAbs (negℤ (pos n)) ≡ n
+abs-neg zero = refl
+abs-neg (suc n) = refl
+
+pub abs-times : (a b : ℤ) → natAbs (a *ℤ b) ≡ natAbs a * natAbs b
+abs-times (pos a) (pos b) = refl
+abs-times (pos a) (negsuc b) = abs-neg (a * suc b)
+abs-times (negsuc a) (pos b) = abs-neg (suc a * b)
+abs-times (negsuc a) (negsuc b) = refl
+
+-- the tests of the code
+pub eq-pass : (a b : ℤ) → leZ a b ≡ true → leZ b a ≡ eqZ a b
+unfolding eqZ
+eq-pass a b h = rw h
+
+pub eq-fail : (a b : ℤ) → leZ a b ≡ false → false ≡ eqZ a b
+unfolding eqZ
+eq-fail a b h = rw h
+
+-- -1 less a number below 0 fits, and is one less than its absolute value
+turned : (n : ℕ) → negsuc 0 -ℤ negsuc n ≡ pos n
+unfolding up dn
+turned n = ≡z (negsuc 0 -ℤ negsuc n) (pos n) (omega (arith, z- (negsuc 0) (negsuc n)))
+
+pub record Below (a m : ℤ) : Type 0 where
+  pub fits : SFits w64 m
+  pub sign : T (nonNeg m)
+  pub one : natAbs m + 1 ≡ natAbs a
+
+pub below : (a : ℤ) → SFits w64 a → ltZ a (pos 0) ≡ true → Below a (negsuc 0 -ℤ a)
+below (pos n) f h = let z : _≡_ {A = ℕ} 0 1 = cc (le-ltb n 0 (omega arith)) in absurd (omega arith)
+below (negsuc n) f h = rw (turned n) (record { fits = record { sfits = f .sfits }; sign = tt; one = omega arith })
+
+pub above : (a : ℤ) → ltZ a (pos 0) ≡ false → T (nonNeg a)
+above (pos n) h = tt
+above (negsuc n) h = let z : _≡_ {A = ℕ} 0 1 = cc in absurd (omega arith)
+
+-- a number of 64 bits has an absolute value of at most half the range
+pub abs-range : (a : ℤ) → SFits w64 a → natAbs a ≤ 2 ^ 63
+abs-range (pos n) h = omega (arith, h .sfits)
+abs-range (negsuc n) h = h .sfits
+
+-- a number that fits is what its 64 bits stand for
+pub held : (z : ℤ) → mag z < 2 ^ 63 → toZ w64 (ofZ w64 z) ≡ z
+held z h = toZ-ofZ (record { sfits = h })
