@@ -1,0 +1,2 @@
+-- Area numbers and raises by the vertices at a triangle's corners.
+pub mod Areas

@@ -1,0 +1,50 @@
+-- `hunt::first_split` meets its contract. The loop's invariant: no triangle passed is bad and in several regions. Assumes nothing.
+use native.Mathlib.Omega.{arith}
+use mathlib.Core.Path.{_∙_, sym}
+use Prim.Native.Nat.{_-_}
+use Rattle.tables.specs.Tables.{view}
+use Rattle.raising.specs.Hunt.{splitBad}
+use Rattle.hunt.specs.Searches.{Sought, sought-none, sought-more, found-here, found-nowhere}
+use Rattle.hunt.proofs.first_split.Statement.{statement}
+use Rattle.hunt.proofs.first_split.Tie as tie
+
+abbrev Inv-loop : tie.InvT-loop
+Inv-loop triangles s coordinates to i₀ i = Sought (splitBad triangles (view s) coordinates) 1 to i
+
+abbrev μ-loop : tie.MeasureT-loop
+μ-loop triangles s coordinates to i₀ i = to - i
+
+loop-holds : tie.Need-loop-holds Inv-loop μ-loop
+loop-holds c = let a = c .before .args in sought-none (splitBad (a .triangles .now) (view (a .s .now)) (a .coordinates .now)) 1 (a .to) (c .before .pre .0)
+
+is-split-bad-requires : tie.Need-is-split-bad-requires Inv-loop μ-loop
+is-split-bad-requires c κs = (omega (arith, c .before .before .before .pre .1, c .loop-test .taken), c .before .before .before .pre .2)
+
+returns : tie.Need-returns Inv-loop μ-loop
+returns c = let a = c .before .before .before .before .before .args in found-here (splitBad (a .triangles .now) (view (a .s .now)) (a .coordinates .now)) 1 (a .to) (c .before .before .before .loop .i) (c .before .before .before .loop .inv) (c .before .before .loop-test .taken) (sym (c .before .is-split-bad .ensures) ∙ c .if1 .taken)
+
+add-i : tie.Need-add-i Inv-loop μ-loop
+add-i c = omega (arith, c .before .before .before .before .before .pre .1, c .before .before .loop-test .taken)
+
+loop-less : tie.Need-loop-less Inv-loop μ-loop
+loop-less c = omega (arith, c .before .before .loop-test .taken)
+
+loop-again : tie.Need-loop-again Inv-loop μ-loop
+loop-again c = let a = c .before .before .before .before .before .args in sought-more (splitBad (a .triangles .now) (view (a .s .now)) (a .coordinates .now)) 1 (a .to) (c .before .before .before .loop .i) (c .before .before .before .loop .inv) (c .before .before .loop-test .taken) (sym (c .before .is-split-bad .ensures) ∙ c .if1 .left)
+
+returns-2 : tie.Need-returns-2 Inv-loop μ-loop
+returns-2 c = let a = c .before .before .before .args in found-nowhere (splitBad (a .triangles .now) (view (a .s .now)) (a .coordinates .now)) 1 (a .to) (c .before .loop .i) (c .before .loop .inv) (c .loop-test .left)
+
+pub first-split-spec : {M : Type 1} → statement M
+first-split-spec =
+    tie.close
+    (tie.spec
+    Inv-loop
+    μ-loop
+    loop-holds
+    is-split-bad-requires
+    returns
+    add-i
+    loop-less
+    loop-again
+    returns-2)

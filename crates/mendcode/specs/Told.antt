@@ -1,0 +1,23 @@
+-- What the end of repair's loop says: this paper's answer for each of its cases. Assumes nothing.
+use Prim.Native.Nat.{ℕ}
+use mathlib.Core.Path.{_≡_}
+use mathlib.Core.List.{List}
+use lib.ListN.{length}
+use lib.IntN.{ℤ}
+use Rattle.definitions.specs.Forward.{forward}
+use Rattle.definitions.specs.Repair.{repair}
+use Rattle.definitions.specs.Answers.{Answer, done, refused, after}
+use Rattle.definitions.specs.Refusals.{repairAnswer}
+use Rattle.mendcode.specs.declared.Ended.{Ended}
+use Rattle.mendcode.specs.declared.Ended.the-variants.{Mended, Stopped}
+
+-- done with the count of raises, or 13 with the count so far
+abbrev pub told : Ended → Answer ℕ
+told (Mended count) = done count
+told (Stopped count) = refused (after count)
+
+-- the answer, the weights and the coordinates are those of the definition
+pub record Ends (n : ℕ) (ts ls : List ℕ) (ws₀ ws bs : List ℤ) (r : Ended) : Type 0 where
+  pub answer : told r ≡ repairAnswer (repair n ts ls ws₀ .ending) (length (repair n ts ls ws₀ .raises))
+  pub weights : ws ≡ repair n ts ls ws₀ .weights
+  pub coordinates : bs ≡ forward n ts ls (repair n ts ls ws₀ .weights)

@@ -1,0 +1,110 @@
+// The loop of repair on a mesh whose trace is in scratch. The coordinates lent are those of the weights all the time: a raise adds to one coordinate of
+// each vertex, by its region. The sum of the weights' absolute values is kept up to date, so that the raise that would break 9 is not made.
+use tables::get_mark;
+ghost use mathlib.Core.Path.{_≡_};
+ghost use mathlib.Core.List.{List};
+ghost use Prim.Native.Nat.{ℕ, _+_, _-_, _*_, _<_, _≤_};
+ghost use lib.ListN.{length, getD, set};
+ghost use lib.IntN.{pos, natAbs, _+ℤ_};
+ghost use Rattle.definitions.specs.Words.{totalAbs};
+ghost use Rattle.definitions.specs.Forward.{forward};
+ghost use Rattle.definitions.specs.Repair.{limit, addTo};
+ghost use Rattle.tables.specs.Tables.{view};
+ghost use Rattle.raising.specs.Regions.{Grown};
+ghost use Rattle.raising.specs.Mends.{Ready};
+ghost use Rattle.mendcode.specs.Growing.{Growable};
+ghost use Rattle.mendcode.specs.Trying.{Summable, Raisable, Tried, Mendable};
+ghost use Rattle.mendcode.specs.Told.{Ends};
+
+// How the loop ended, with the count of raises: no triangle is bad any more, or the next raise would break 9.
+pub enum Ended {
+    Mended(usize),
+    Stopped(usize),
+}
+
+// x more at entry i
+fn add_at(numbers: &mut [i64], i: usize, x: i64)
+    requires { ⌜ (i < length (now numbers)) × (natAbs (getD (now numbers) i (pos 0)) ≤ limit) × (natAbs x ≤ 2 * limit + 1) ⌝ }
+    ensures { λ r. ⌜ now (numbers .exit) ≡ set (now (numbers .entry)) i (getD (now (numbers .entry)) i (pos 0) +ℤ x) ⌝ }
+{
+    let a = whole::at(numbers, i);
+    whole::put(numbers, i, whole::plus(a, x));
+}
+
+// x more in the coordinate of each vertex that is its region
+fn grow(n: usize, s: &[i64], coordinates: &mut [i64], x: i64)
+    requires { ⌜ Growable n (now s) (now coordinates) x ⌝ }
+    ensures { λ r. ⌜ Grown n (λ v. view (now (s .entry)) .mark (2 * v)) x (now (coordinates .entry)) (now (coordinates .exit)) ⌝ }
+{
+    let mut v = 0;
+    while v < n {
+        let c = get_mark(s, 2 * v);
+        add_at(coordinates, 3 * v + c, x);
+        v += 1;
+    }
+}
+
+// the sum of the absolute values once the weight of triangle t is raised by x
+fn sum_after(weights: &[i64], t: usize, sum: usize, x: i64) -> usize
+    requires { ⌜ Summable (now weights) t sum x ⌝ }
+    ensures { λ r. ⌜ r ≡ totalAbs (addTo (now (weights .entry)) t x) ⌝ }
+{
+    let w = whole::at(weights, t - 1);
+    let y = whole::plus(w, x);
+    let old = whole::magnitude(w);
+    let new = whole::magnitude(y);
+    sum - old + new
+}
+
+// Triangle t is raised, if the sum of the absolute values then stays within the limit. That sum is returned.
+fn try_raise(
+    n: usize,
+    triangles: &[u16],
+    weights: &mut [i64],
+    coordinates: &mut [i64],
+    s: &mut [i64],
+    t: usize,
+    sum: usize,
+) -> usize
+    requires { ⌜ Raisable n (now triangles) (now weights) (now coordinates) (now s) t sum ⌝ }
+    ensures { λ r. ⌜ Tried n (now (triangles .entry)) (now (weights .entry)) (now (coordinates .entry)) (now (s .entry)) (now (weights .exit)) (now (coordinates .exit)) (now (s .exit)) t r ⌝ }
+{
+    let x = hunt::raise_at(triangles, s, coordinates, t);
+    let new = sum_after(weights, t, sum, x);
+    if new > 1_073_741_823 {
+        return new;
+    }
+    add_at(weights, t - 1, x);
+    regions::find(n, triangles, s, t);
+    grow(n, s, coordinates, x);
+    new
+}
+
+// While some inner triangle is bad, the lowest-numbered one is raised.
+pub fn mend(
+    n: usize,
+    triangles: &[u16],
+    weights: &mut [i64],
+    coordinates: &mut [i64],
+    s: &mut [i64],
+    sum: usize,
+) -> Ended
+    requires { ⌜ Mendable n (now triangles) (now weights) (now coordinates) (now s) sum ⌝ }
+    ensures { λ r. ⌜ ((ls : List ℕ) → Ready n (now (triangles .entry)) ls (now (s .entry)) → now (coordinates .entry) ≡ forward n (now (triangles .entry)) ls (now (weights .entry)) →
+        Ends n (now (triangles .entry)) ls (now (weights .entry)) (now (weights .exit)) (now (coordinates .exit)) r) ⌝ }
+{
+    let end = 2 * n - 4;
+    let mut total = sum;
+    let mut count = 0;
+    let mut t = hunt::first_bad(triangles, s, coordinates, 1, end);
+    while t < end {
+        let tried = try_raise(n, triangles, weights, coordinates, s, t, total);
+        if tried > 1_073_741_823 {
+            return Ended::Stopped(count);
+        }
+        total = tried;
+        count += 1;
+        t = hunt::next_bad(triangles, s, coordinates, t, end);
+    }
+    Ended::Mended(count)
+}

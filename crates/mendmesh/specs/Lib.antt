@@ -1,0 +1,2 @@
+-- How repair starts on a peeled mesh.
+pub mod Starts

@@ -1,0 +1,2 @@
+-- How the code's turns meet the pure functions of a raise.
+pub mod Turns
