@@ -1,0 +1,286 @@
+// Snapping of drawn points: a share, a point, and the public call on a list of points.
+ghost use mathlib.Core.Path.{_≡_};
+ghost use mathlib.Core.Bool.{true};
+ghost use mathlib.Core.List.{[], _∷_};
+ghost use Prim.Native.Nat.{_+_, _*_, _/_, _%_, _^_, _≤_, _<_};
+ghost use lib.Dec.{leb};
+ghost use lib.Ieee.{nan, binary64, top, hid};
+ghost use lib.ListN.{length, getD};
+ghost use lib.Seq.{sets};
+ghost use lib.IntN.{pos, negℤ, natAbs, _-ℤ_};
+ghost use Rattle.definitions.specs.Answers.{done};
+ghost use Rattle.definitions.specs.Drawn as Drawn;
+ghost use Rattle.definitions.specs.Refusals.{snapCall};
+ghost use Rattle.shares.specs.Bits.{units};
+ghost use Rattle.shares.specs.Share.{endless, far};
+ghost use Rattle.shares.specs.Points.{settled, new};
+ghost use Rattle.snap.specs.Told.{told, pointTold, snapTold};
+
+// What becomes of a share: its whole number, or why it is refused.
+pub enum ShareAnswer {
+    Whole(i64),
+    NotFinite,
+    Outside(f64),
+}
+
+// What scale 0 stands for.
+const USUAL_SCALE: u32 = 16;
+
+fn exact_scale(scale: u32) -> u32
+    ensures { λ r. ⌜ r ≡ Drawn.scale scale ⌝ }
+{
+    if scale == 0 { USUAL_SCALE } else { scale }
+}
+
+fn signed(a: u64) -> i64
+    requires { ⌜ a < 2 ^ 53 ⌝ }
+    ensures { λ r. ⌜ r ≡ pos a ⌝ }
+{
+    a as i64
+}
+
+fn minus(a: u64) -> i64
+    requires { ⌜ a < 2 ^ 53 ⌝ }
+    ensures { λ r. ⌜ r ≡ negℤ (pos a) ⌝ }
+{
+    -(a as i64)
+}
+
+// The whole number at or below a / b, or - a / b: below 0 one more is taken off where a fraction is left.
+fn floor(negative: bool, a: u64, b: u64) -> i64
+    requires { ⌜ (1 < b) × (a < 2 ^ 53) ⌝ }
+    ensures { λ r. ⌜ r ≡ Drawn.floor negative a b ⌝ }
+{
+    let whole = a / b;
+    if negative {
+        if a % b == 0 {
+            return minus(whole);
+        }
+        return minus(whole + 1);
+    }
+    signed(whole)
+}
+
+// The bit of an f64's sign, above its exponent's field and its digits.
+const SIGN: u64 = 0x8000_0000_0000_0000;
+
+// The least bits below the sign that stand for no finite number.
+const ENDLESS: u64 = 0x7ff0_0000_0000_0000;
+
+// The leading digit of an f64, which its bits leave out, and the weight of its exponent's field.
+const LEADING: u64 = 0x10_0000_0000_0000;
+
+// The whole number at or below ± a / 2 ^ d. A divisor past 2 ^ 62 does what 2 ^ 62 does, since a is small.
+fn floor_shift(negative: bool, a: u64, d: u64) -> i64
+    requires { ⌜ (0 < d) × (a < 2 ^ 53) ⌝ }
+    ensures { λ r. ⌜ r ≡ Drawn.floor negative a (2 ^ d) ⌝ }
+{
+    if d < 62 {
+        return floor(negative, a, 1 << d);
+    }
+    floor(negative, a, 0x4000_0000_0000_0000)
+}
+
+// The whole number of the finite f64 with these bits, at an exact scale r. Its exponent's field says which power of 2 its digits count:
+// field 0 stands for 2 ^ -1074, as 1 does, and any other brings a leading digit.
+fn snap_bits(bits: u64, r: u64) -> i64
+    requires { ⌜ (r ≤ 24) × (bits % top binary64 / hid binary64 ≤ 1024) ⌝ }
+    ensures { λ k. ⌜ k ≡ Drawn.floor (leb (top binary64) bits) (units bits * 2 ^ r) (2 ^ 1074) ⌝ }
+{
+    let negative = bits >= SIGN;
+    let field = bits % SIGN / LEADING;
+    let digits = bits % LEADING;
+    if field == 0 {
+        return floor_shift(negative, digits, 1074 - r);
+    }
+    floor_shift(negative, LEADING + digits, 1075 - field - r)
+}
+
+// Whether a share is no number, or infinite.
+fn not_finite(share: f64) -> bool
+    ensures { λ r. ⌜ r ≡ endless share ⌝ }
+{
+    if share != share {
+        return true;
+    }
+    f64::to_bits(share) % SIGN >= ENDLESS
+}
+
+// Whether a share is outside -2 to 2.
+fn outside(share: f64) -> bool
+    ensures { λ r. ⌜ r ≡ far share ⌝ }
+{
+    if share < -2.0 {
+        return true;
+    }
+    share > 2.0
+}
+
+// A share at an allowed scale: 15 goes before 16.
+fn snap_share(share: f64, scale: u32) -> ShareAnswer
+    requires { ⌜ Drawn.scaleAllowed scale ≡ true ⌝ }
+    ensures { λ r. ⌜ told r ≡ Drawn.snap scale share ⌝ }
+{
+    let endless = not_finite(share);
+    let far = outside(share);
+    if endless {
+        return ShareAnswer::NotFinite;
+    }
+    if far {
+        return ShareAnswer::Outside(share);
+    }
+    ShareAnswer::Whole(snap_bits(f64::to_bits(share), exact_scale(scale) as u64))
+}
+
+fn less(a: i64, b: i64) -> i64
+    requires { ⌜ natAbs a + natAbs b < 2 ^ 53 ⌝ }
+    ensures { λ r. ⌜ (r ≡ a -ℤ b) × (natAbs r ≤ natAbs a + natAbs b) ⌝ }
+{
+    a - b
+}
+
+// The third coordinate, from the exact scale r and the first two.
+fn third(kx: i64, ky: i64, r: u32) -> i64
+    requires { ⌜ (natAbs kx ≤ 2 ^ 25) × (natAbs ky ≤ 2 ^ 25) × (r ≤ 24) ⌝ }
+    ensures { λ k. ⌜ k ≡ pos (2 ^ r) -ℤ kx -ℤ ky ⌝ }
+{
+    less(less(signed(1 << r), kx), ky)
+}
+
+// A drawn point: the share x of v0, and the share y of v1.
+pub struct Point {
+    pub x: f64,
+    pub y: f64,
+}
+
+// What becomes of a point: its three coordinates, or why it is refused.
+pub enum PointAnswer {
+    At(i64, i64, i64),
+    NotFinite,
+    Outside(f64),
+}
+
+// A point at an allowed scale, x before y.
+fn snap_point(point: Point, scale: u32) -> PointAnswer
+    requires { ⌜ Drawn.scaleAllowed scale ≡ true ⌝ }
+    ensures { λ r. ⌜ pointTold r ≡ Drawn.snapAll scale (point .x ∷ point .y ∷ []) ⌝ }
+{
+    match snap_share(point.x, scale) {
+        ShareAnswer::NotFinite => PointAnswer::NotFinite,
+        ShareAnswer::Outside(share) => PointAnswer::Outside(share),
+        ShareAnswer::Whole(kx) => match snap_share(point.y, scale) {
+            ShareAnswer::NotFinite => PointAnswer::NotFinite,
+            ShareAnswer::Outside(share) => PointAnswer::Outside(share),
+            ShareAnswer::Whole(ky) => PointAnswer::At(kx, ky, third(kx, ky, exact_scale(scale))),
+        },
+    }
+}
+
+// What a list of points is answered: done, or refused with the number of the table, 16 with the share itself.
+pub enum SnapAnswer {
+    Done,
+    Refused(u32),
+    Outside(f64),
+}
+
+fn scale_allowed(scale: u32) -> bool
+    ensures { λ r. ⌜ r ≡ Drawn.scaleAllowed scale ⌝ }
+{
+    if scale == 0 {
+        return true;
+    }
+    if scale < 4 {
+        return false;
+    }
+    scale <= 24
+}
+
+// The point i of a list: two shares to a point, x before y.
+fn point_at(shares: &[f64], i: usize) -> Point
+    requires { ⌜ 2 * i + 1 < length (now shares) ⌝ }
+    ensures { λ r. ⌜ (r .x ≡ getD (now (shares .entry)) (2 * i) nan) × (r .y ≡ getD (now (shares .entry)) (2 * i + 1) nan) ⌝ }
+{
+    Point {
+        x: shares[2 * i],
+        y: shares[2 * i + 1],
+    }
+}
+
+// Looks at the points in order and writes nothing.
+fn look(n: usize, shares: &[f64], scale: u32) -> SnapAnswer
+    requires { ⌜ (Drawn.scaleAllowed scale ≡ true) × (length (now shares) ≡ 2 * n) ⌝ }
+    ensures { λ r. ⌜ snapTold r ≡ settled (Drawn.snapAll scale (now (shares .entry))) ⌝ }
+{
+    let mut i = 0;
+    while i < n {
+        match snap_point(point_at(shares, i), scale) {
+            PointAnswer::NotFinite => {
+                return SnapAnswer::Refused(15);
+            }
+            PointAnswer::Outside(share) => {
+                return SnapAnswer::Outside(share);
+            }
+            PointAnswer::At(_, _, _) => {
+                i += 1;
+            }
+        }
+    }
+    SnapAnswer::Done
+}
+
+// Writes the three coordinates of a point that is not refused.
+fn write_point(point: Point, scale: u32, coordinates: &mut [i64], at: usize)
+    requires { ⌜ (Drawn.scaleAllowed scale ≡ true) × (at + 3 ≤ length (now coordinates)) ⌝ }
+    ensures { λ _. ⌜ now (coordinates .exit) ≡ sets (now (coordinates .entry)) at (new (Drawn.snapAll scale (point .x ∷ point .y ∷ []))) ⌝ }
+{
+    let PointAnswer::At(kx, ky, kz) = snap_point(point, scale) else {
+        return;
+    };
+    coordinates[at] = kx;
+    coordinates[at + 1] = ky;
+    coordinates[at + 2] = kz;
+}
+
+// Writes the coordinates of points of which none is refused.
+fn write(n: usize, shares: &[f64], scale: u32, coordinates: &mut [i64])
+    requires { ⌜ (Drawn.scaleAllowed scale ≡ true) × (length (now shares) ≡ 2 * n) × (length (now coordinates) ≡ 3 * n)
+        × (settled (Drawn.snapAll scale (now shares)) ≡ done tt) ⌝ }
+    ensures { λ _. ⌜ now (coordinates .exit) ≡ new (Drawn.snapAll scale (now (shares .entry))) ⌝ }
+{
+    let mut i = 0;
+    while i < n {
+        write_point(point_at(shares, i), scale, &mut *coordinates, 3 * i);
+        i += 1;
+    }
+}
+
+// The most vertices that a shell may have.
+const MOST_VERTICES: usize = 4096;
+
+// Snaps n points, two shares to each, to three coordinates each. Every point is looked at before the first is written.
+pub fn snap_points(n: usize, shares: &[f64], scale: u32, coordinates: &mut [i64]) -> SnapAnswer
+    ensures answer { λ r. ⌜ snapTold r ≡ snapCall n (now (shares .entry)) scale (now (coordinates .entry)) .answer ⌝ }
+    ensures coordinates { λ r. ⌜ now (coordinates .exit) ≡ snapCall n (now (shares .entry)) scale (now (coordinates .entry)) .coordinates ⌝ }
+{
+    if n < 3 {
+        return SnapAnswer::Refused(1);
+    }
+    if n > MOST_VERTICES {
+        return SnapAnswer::Refused(1);
+    }
+    if shares.len() != 2 * n {
+        return SnapAnswer::Refused(2);
+    }
+    if coordinates.len() != 3 * n {
+        return SnapAnswer::Refused(2);
+    }
+    if scale_allowed(scale) {
+        let found = look(n, shares, scale);
+        let SnapAnswer::Done = found else {
+            return found;
+        };
+        write(n, shares, scale, coordinates);
+        return SnapAnswer::Done;
+    }
+    SnapAnswer::Refused(14)
+}

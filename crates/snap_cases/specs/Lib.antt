@@ -1,0 +1,2 @@
+-- What the cases look at.
+pub mod Seen
