@@ -1,0 +1,2 @@
+-- Steps of the writers of lines.
+pub mod Steps

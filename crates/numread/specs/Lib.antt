@@ -1,0 +1,2 @@
+-- What the readers of numbers answer. Definitions only.
+pub mod Outcome

@@ -1,0 +1,31 @@
+-- `numwrite::decimal_length` meets its contract. By the sign and the absolute value. Assumes nothing.
+use mathlib.Core.Path.{sym, ap, _∙_}
+use Prim.Native.Nat.{ℕ}
+use lib.ListN.{length}
+use lib.IntN.{ℤ, pos, natAbs}
+use lib.Signed.{ltZ}
+use mir.Facts.{toZ-ofZ}
+use borrow.Author.Needs.{needs}
+use Rattle.numwrite.specs.Steps.{decimal-found}
+use Rattle.numwrite.proofs.decimal_length.Statement.{statement}
+use Rattle.numwrite.proofs.decimal_length.Tie as tie
+
+below-zero-requires : tie.Need-below-zero-requires
+below-zero-requires c κs = search needs
+
+magnitude-requires : tie.Need-magnitude-requires
+magnitude-requires c κs = search needs
+
+signed-length-requires : tie.Need-signed-length-requires
+signed-length-requires c κs = search needs
+
+returns : tie.Need-returns
+returns c =
+    let start = c .before .before .before in
+    let at-below-zero = c .before .before in
+    let d = decimal-found (start .args .z) _ _ (at-below-zero .below-zero .ensures ∙ ap (λ (x : ℤ). ltZ x (pos 0)) (toZ-ofZ (start .fits .z))) (c .before .magnitude .ensures ∙ ap natAbs (toZ-ofZ (start .fits .z))) in
+    (c .signed-length .ensures .0 ∙ ap {B = ℕ} length (sym d), c .signed-length .ensures .1)
+
+pub decimal-length-spec : {M : Type 1} → statement M
+decimal-length-spec =
+    tie.close (tie.spec below-zero-requires magnitude-requires signed-length-requires returns)

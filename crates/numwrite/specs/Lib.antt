@@ -1,0 +1,2 @@
+-- Steps of the writers of numbers.
+pub mod Steps

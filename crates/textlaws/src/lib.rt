@@ -1,0 +1,1 @@
+// Laws of the job text's bytes, lines and numbers, and of the listing. Specs only.

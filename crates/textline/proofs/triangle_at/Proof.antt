@@ -1,0 +1,28 @@
+-- `textline::triangle_at` meets its contract. The line up to its LF; with no LF there is no line. Assumes nothing.
+use borrow.Author.Needs.{needs}
+use Rattle.definitions.specs.Job.{triangleLine}
+use Rattle.textlaws.specs.Reading.{line-of, no-line-of}
+use Rattle.textline.proofs.triangle_at.Statement.{statement}
+use Rattle.textline.proofs.triangle_at.Tie as tie
+
+find-requires : tie.Need-find-requires
+find-requires c κs = search needs
+
+returns : tie.Need-returns
+returns c = no-line-of triangleLine _ _ (c .before .find .ensures) (c .if1 .taken)
+
+front-requires : tie.Need-front-requires
+front-requires c κs = search needs
+
+read-triangle-requires : tie.Need-read-triangle-requires
+read-triangle-requires c κs = search needs
+
+returns-2 : tie.Need-returns-2
+returns-2 c =
+    let at-find = c .before .before .before in
+    let else1 = c .before .before in
+    line-of triangleLine _ _ _ _ (at-find .find .ensures) (else1 .if1 .left) (c .before .front .ensures) (c .read-triangle .ensures)
+
+pub triangle-at-spec : {M : Type 1} → statement M
+triangle-at-spec =
+    tie.close (tie.spec find-requires returns front-requires read-triangle-requires returns-2)

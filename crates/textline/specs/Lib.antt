@@ -1,0 +1,3 @@
+-- What the readers of lines answer.
+pub mod Outcome
+pub mod Steps
