@@ -1,0 +1,47 @@
+//! Labels on random spheres from 3 to 4,096 vertices, on damaged meshes, and
+//! with wrong lengths.
+
+use crate::calls;
+use crate::meshes::{stale, vertices};
+use crate::tally::Tally;
+use peer::spheres::{self, Rng};
+use peer::{damage, labels, Work};
+
+fn one(tally: &mut Tally, work: &mut Work, n: usize, triangles: &[u16], cut: usize) {
+    let len = (6 * n).saturating_sub(15 + cut);
+    let (mut ours, mut theirs) = (vec![9; len], vec![9; len]);
+    let (mut scratch, mut other) = (stale(24 * n), stale(24 * n));
+    let number = calls::labels(n, triangles, &mut ours, &mut scratch);
+    let answer = labels::labels(work, n, triangles, &mut theirs, &mut other);
+    let same = number == answer.err().map_or(0, |r| u64::from(r.number))
+        && ours == theirs
+        && scratch == other;
+    tally.count(number, same, || {
+        format!("n {n}, {triangles:?}: {number} and {answer:?}")
+    });
+}
+
+pub fn run(count: usize, seed: u64) -> Tally {
+    let mut rng = Rng(seed);
+    let mut work = Work::default();
+    let mut tally = Tally::new("labels", &[0, 1, 2, 3, 4, 5, 6, 7, 8]);
+    one(&mut tally, &mut work, 2, &[], 0);
+    for round in 0..count {
+        let n = if round < 3 { 4096 } else { vertices(&mut rng) };
+        if rng.chance(8) {
+            let number = 3 + rng.below(6) as u8;
+            let bad = damage::mesh(&mut rng, number, n);
+            one(&mut tally, &mut work, bad.n, &bad.triangles, 0);
+        } else {
+            let triangles = spheres::sphere(&mut rng, n);
+            one(
+                &mut tally,
+                &mut work,
+                n,
+                &triangles,
+                rng.chance(50) as usize,
+            );
+        }
+    }
+    tally
+}

@@ -1,0 +1,142 @@
+//! Forward and backward on random spheres, with weights and coordinates of
+//! every kind, at the limits too, and with refused ones.
+
+use crate::calls;
+use crate::meshes::{stale, vertices};
+use crate::tally::Tally;
+use peer::spheres::{self, Rng};
+use peer::{damage, maps, Answer, Sizes, Work};
+
+/// What two calls left in the slices they write.
+struct Left {
+    to: Vec<i64>,
+    scratch: Vec<i64>,
+}
+
+impl Left {
+    fn lent(len: usize, n: usize) -> Left {
+        Left {
+            to: stale(len),
+            scratch: stale(24 * n),
+        }
+    }
+}
+
+fn agree(number: u64, answer: Answer<()>, ours: &Left, theirs: &Left) -> bool {
+    number == answer.err().map_or(0, |r| u64::from(r.number))
+        && ours.to == theirs.to
+        && ours.scratch == theirs.scratch
+}
+
+fn forth(tally: &mut Tally, work: &mut Work, n: usize, mesh: &[u16], weights: &[i64]) -> Vec<i64> {
+    let (mut ours, mut theirs) = (Left::lent(3 * n, n), Left::lent(3 * n, n));
+    let number = calls::forward(n, mesh, weights, &mut ours.to, &mut ours.scratch);
+    let answer = maps::forward(work, n, mesh, weights, &mut theirs.to, &mut theirs.scratch);
+    tally.count(number, agree(number, answer, &ours, &theirs), || {
+        format!("n {n}, {mesh:?}, {weights:?}: {number} and {answer:?}")
+    });
+    ours.to
+}
+
+fn back(tally: &mut Tally, work: &mut Work, n: usize, mesh: &[u16], coordinates: &[i64]) {
+    let len = Sizes::of(n).map_or(0, |s| s.weights);
+    let (mut ours, mut theirs) = (Left::lent(len, n), Left::lent(len, n));
+    let number = calls::backward(n, mesh, coordinates, &mut ours.to, &mut ours.scratch);
+    let answer = maps::backward(
+        work,
+        n,
+        mesh,
+        coordinates,
+        &mut theirs.to,
+        &mut theirs.scratch,
+    );
+    tally.count(number, agree(number, answer, &ours, &theirs), || {
+        format!("n {n}, {mesh:?}, {coordinates:?}: {number} and {answer:?}")
+    });
+}
+
+/// Coordinates with the outer vertices at their corners and the others anywhere.
+fn anywhere(rng: &mut Rng, n: usize, outer: [u16; 3]) -> Vec<i64> {
+    let reach = [5, 1000, peer::LIMIT / n as i64 / 8, peer::LIMIT / 3][rng.below(4)].max(1);
+    let total = rng.within(-reach, reach);
+    let mut b = vec![0; 3 * n];
+    for at in b.chunks_exact_mut(3) {
+        at[0] = rng.within(-reach, reach);
+        at[1] = rng.within(-reach, reach);
+        at[2] = total - at[0] - at[1];
+    }
+    let [v0, v2, v1] = outer.map(usize::from);
+    for (v, c) in [(v0, 0), (v1, 1), (v2, 2)] {
+        b[3 * v..3 * v + 3].fill(0);
+        b[3 * v + c] = total;
+    }
+    b
+}
+
+pub fn run(count: usize, seed: u64) -> [Tally; 2] {
+    let mut rng = Rng(seed);
+    let mut work = Work::default();
+    let mut forward = Tally::new("forward", &[0, 1, 2, 3, 4, 5, 6, 7, 8, 9]);
+    let mut backward = Tally::new("backward", &[0, 1, 2, 3, 4, 5, 6, 7, 8, 9, 10, 11, 12]);
+    forth(&mut forward, &mut work, 2, &[], &[]);
+    back(&mut backward, &mut work, 2, &[], &[]);
+    for round in 0..count {
+        let n = if round < 2 {
+            4096
+        } else {
+            vertices(&mut rng).max(4)
+        };
+        let mesh = spheres::sphere(&mut rng, n);
+        let weights = if rng.chance(8) {
+            damage::heavy(&mut rng, 2 * n - 5)
+        } else {
+            spheres::any_weights(&mut rng, 2 * n - 5)
+        };
+        let b = forth(&mut forward, &mut work, n, &mesh, &weights);
+        let outer = [mesh[0], mesh[1], mesh[2]];
+        let asked = match rng.below(8) {
+            0 => {
+                let number = 10 + rng.below(3) as u8;
+                damage::coordinates(
+                    &mut rng,
+                    number,
+                    outer,
+                    &anywhere_or(&b, &mut Rng(seed), n, outer),
+                )
+            }
+            1..=3 => anywhere(&mut rng, n, outer),
+            _ => b,
+        };
+        back(&mut backward, &mut work, n, &mesh, &asked);
+        if rng.chance(16) {
+            let number = 3 + rng.below(6) as u8;
+            let bad = damage::mesh(&mut rng, number, n.min(40));
+            forth(
+                &mut forward,
+                &mut work,
+                bad.n,
+                &bad.triangles,
+                &vec![1; 2 * bad.n - 5],
+            );
+            back(
+                &mut backward,
+                &mut work,
+                bad.n,
+                &bad.triangles,
+                &vec![1; 3 * bad.n],
+            );
+            forth(&mut forward, &mut work, n, &mesh, &weights[1..]);
+            back(&mut backward, &mut work, n, &mesh, &asked[1..]);
+        }
+    }
+    [forward, backward]
+}
+
+/// The coordinates, or others where forward was refused and left them as lent.
+fn anywhere_or(b: &[i64], rng: &mut Rng, n: usize, outer: [u16; 3]) -> Vec<i64> {
+    if b.iter().all(|x| x.abs() <= peer::LIMIT) {
+        b.to_vec()
+    } else {
+        anywhere(rng, n, outer)
+    }
+}

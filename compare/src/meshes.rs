@@ -1,0 +1,69 @@
+//! The mesh check: random spheres and damaged meshes from 3 to 4,096 vertices,
+//! and wrong lengths, with scratch that holds something.
+
+use crate::calls;
+use crate::tally::Tally;
+use peer::spheres::{self, Rng};
+use peer::{damage, mesh, Sizes, Work};
+
+/// A number of vertices: small ones often, large ones now and then.
+pub fn vertices(rng: &mut Rng) -> usize {
+    match rng.below(40) {
+        0 => 3 + rng.below(4094),
+        1..=4 => 3 + rng.below(300),
+        _ => 3 + rng.below(30),
+    }
+}
+
+/// Scratch as it may be lent.
+pub fn stale(len: usize) -> Vec<i64> {
+    (0..len as i64).map(|i| i * 0x9e37_79b9 - 5).collect()
+}
+
+fn one(tally: &mut Tally, work: &mut Work, n: usize, triangles: &[u16], len: usize) {
+    let mut ours = stale(len);
+    let mut theirs = ours.clone();
+    let number = calls::check(n, triangles, &mut ours);
+    let answer = mesh::check(work, n, triangles, &mut theirs);
+    let same = number == answer.err().map_or(0, |r| u64::from(r.number)) && ours == theirs;
+    tally.count(number, same, || {
+        format!("n {n}, {triangles:?}: {number} and {answer:?}")
+    });
+}
+
+pub fn run(count: usize, seed: u64) -> Tally {
+    let mut rng = Rng(seed);
+    let mut work = Work::default();
+    let mut tally = Tally::new("mesh check", &[0, 1, 2, 3, 4, 5, 6, 7, 8]);
+    for round in 0..count {
+        let n = if round == 0 { 4096 } else { vertices(&mut rng) };
+        let whole = Sizes::of(n).map_or(0, |s| s.scratch);
+        let triangles = if rng.chance(4) {
+            spheres::sphere(&mut rng, n)
+        } else {
+            let number = 3 + rng.below(6) as u8;
+            let bad = damage::mesh(&mut rng, number, n);
+            one(&mut tally, &mut work, bad.n, &bad.triangles, 24 * bad.n);
+            continue;
+        };
+        one(&mut tally, &mut work, n, &triangles, whole);
+        if rng.chance(8) {
+            let cut = rng.below(2);
+            one(
+                &mut tally,
+                &mut work,
+                n,
+                &triangles[cut..],
+                whole - (1 - cut),
+            );
+            one(
+                &mut tally,
+                &mut work,
+                rng.below(3) + 4096 * rng.below(2) * 2,
+                &triangles,
+                whole,
+            );
+        }
+    }
+    tally
+}

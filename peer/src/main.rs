@@ -1,0 +1,203 @@
+//! The program `peer`: own tests, jobs, random and damaged jobs, comparison
+//! with another program, and timings.
+
+use peer::spheres::{sphere, weights, Rng, KINDS};
+use peer::text::{self, Job};
+use peer::{damage, labels, maps, mesh, repair, trials, Sizes, Work};
+use std::io::{Read, Write};
+use std::process::{Command, ExitCode, Stdio};
+use std::time::Instant;
+
+const USAGE: &str = "peer test [ROUNDS] [SEED]
+peer job
+peer repaired
+peer sphere N SEED [KIND]
+peer damaged NUMBER SEED
+peer compare COMMAND COUNT SEED
+peer time [N] [SEED]";
+
+fn main() -> ExitCode {
+    let arguments: Vec<String> = std::env::args().skip(1).collect();
+    let words: Vec<&str> = arguments.iter().map(String::as_str).collect();
+    let done = match words[..] {
+        ["test", ref rest @ ..] => test(rest),
+        ["job"] => job(),
+        ["repaired"] => repaired(),
+        ["sphere", n, seed, ref kind @ ..] => random_job(n, seed, kind.first()),
+        ["damaged", number, seed] => damaged_job(number, seed),
+        ["compare", command, count, seed] => compare(command, count, seed),
+        ["time", ref rest @ ..] => time(rest),
+        _ => None,
+    };
+    match done {
+        Some(true) => ExitCode::SUCCESS,
+        Some(false) => ExitCode::FAILURE,
+        None => {
+            eprintln!("{USAGE}");
+            ExitCode::from(2)
+        }
+    }
+}
+
+/// The i-th word as a number, or what stands for it when it is not given.
+fn number(words: &[&str], i: usize, usual: u64) -> Option<u64> {
+    words.get(i).map_or(Some(usual), |word| word.parse().ok())
+}
+
+fn put(bytes: &[u8]) -> Option<bool> {
+    Some(std::io::stdout().write_all(bytes).is_ok())
+}
+
+fn test(words: &[&str]) -> Option<bool> {
+    let rounds = number(words, 0, 400)?.max(1) as usize;
+    Some(trials::run(rounds, number(words, 1, 1)?))
+}
+
+/// Standard input up to one byte past the longest job text: more changes nothing.
+fn input() -> std::io::Result<Vec<u8>> {
+    let mut text = vec![];
+    let mut input = std::io::stdin().take(text::MOST_BYTES as u64 + 1);
+    input.read_to_end(&mut text)?;
+    Ok(text)
+}
+
+fn job() -> Option<bool> {
+    let Ok(text) = input() else {
+        return Some(false);
+    };
+    put(&text::packmap(&mut Work::default(), &text))
+}
+
+/// The job text with the weights that repair leaves.
+fn repaired() -> Option<bool> {
+    let Ok(text) = input() else {
+        return Some(false);
+    };
+    let (mut work, mut listing) = (Work::default(), [0; text::MOST_BYTES]);
+    if text::run(&mut work, &text, &mut listing).is_err() {
+        return Some(false);
+    }
+    let job = &work.job;
+    put(&Job::write(job.n, &job.triangles, &job.weights))
+}
+
+fn random_job(n: &str, seed: &str, kind: Option<&&str>) -> Option<bool> {
+    let n = n.parse().ok().filter(|n| peer::TEXT_VERTICES.contains(n))?;
+    let mut rng = Rng(seed.parse().ok()?);
+    let kind = match kind {
+        Some(kind) => kind,
+        None => KINDS[rng.below(KINDS.len())],
+    };
+    let triangles = sphere(&mut rng, n);
+    let weights = weights(&mut rng, kind, 2 * n - 5)?;
+    put(&Job::write(n, &triangles, &weights))
+}
+
+fn damaged_job(number: &str, seed: &str) -> Option<bool> {
+    let number = number.parse().ok();
+    let number = number.filter(|n| damage::TEXT_NUMBERS.contains(n))?;
+    put(&damage::text(&mut Rng(seed.parse().ok()?), number).text)
+}
+
+/// What a command, parted by spaces, prints for a text on its standard input.
+fn printed(command: &str, text: &[u8]) -> std::io::Result<Vec<u8>> {
+    let mut words = command.split_whitespace();
+    let mut child = Command::new(words.next().unwrap_or_default())
+        .args(words)
+        .stdin(Stdio::piped())
+        .stdout(Stdio::piped())
+        .spawn()?;
+    // A text that is too long need not be read to its end.
+    if let Some(mut input) = child.stdin.take() {
+        let _ = input.write_all(text);
+    }
+    Ok(child.wait_with_output()?.stdout)
+}
+
+/// Random and damaged jobs, in turn, to another program and to this one.
+fn compare(command: &str, count: &str, seed: &str) -> Option<bool> {
+    let (count, mut rng) = (count.parse::<usize>().ok()?, Rng(seed.parse().ok()?));
+    let mut work = Work::default();
+    let mut differing = 0;
+    for i in 0..count {
+        let text = if i % 3 == 2 {
+            let which = rng.below(damage::TEXT_NUMBERS.len());
+            damage::text(&mut rng, damage::TEXT_NUMBERS[which]).text
+        } else {
+            let sizes = [8, 30, 254][rng.below(3)];
+            let n = 3 + rng.below(sizes);
+            let kind = KINDS[rng.below(KINDS.len())];
+            let triangles = sphere(&mut rng, n);
+            Job::write(n, &triangles, &weights(&mut rng, kind, 2 * n - 5)?)
+        };
+        let ours = text::packmap(&mut work, &text);
+        match printed(command, &text) {
+            Ok(theirs) if theirs == ours => (),
+            Ok(theirs) => {
+                differing += 1;
+                println!(
+                    "job {i} differs\n{}ours:\n{}theirs:\n{}",
+                    String::from_utf8_lossy(&text),
+                    String::from_utf8_lossy(&ours),
+                    String::from_utf8_lossy(&theirs)
+                );
+            }
+            Err(error) => {
+                eprintln!("{command}: {error}");
+                return Some(false);
+            }
+        }
+    }
+    println!("{} passed, {differing} failed", count - differing);
+    Some(differing == 0)
+}
+
+/// Least time of a call over several runs, in microseconds.
+fn least(mut call: impl FnMut()) -> f64 {
+    let mut best = f64::MAX;
+    for _ in 0..30 {
+        let start = Instant::now();
+        call();
+        best = best.min(start.elapsed().as_secs_f64());
+    }
+    best * 1e6
+}
+
+/// Times of the calls on five random spheres, with weights of three kinds.
+fn time(words: &[&str]) -> Option<bool> {
+    let n = number(words, 0, 4096)? as usize;
+    let mut rng = Rng(number(words, 1, 1)?);
+    let sizes = Sizes::of(n).ok()?;
+    let mut work = Work::default();
+    let mut scratch = vec![0; sizes.scratch];
+    let mut corners = vec![0; sizes.labels];
+    let mut b = vec![0; sizes.coordinates];
+    let mut w = vec![0; sizes.weights];
+    println!("n = {n}, microseconds, least of 30 runs");
+    for i in 1..=5 {
+        let t = sphere(&mut rng, n);
+        let ones = vec![1; sizes.weights];
+        let times = [
+            least(|| _ = mesh::check(&mut work, n, &t, &mut scratch)),
+            least(|| _ = labels::labels(&mut work, n, &t, &mut corners, &mut scratch)),
+            least(|| _ = maps::forward(&mut work, n, &t, &ones, &mut b, &mut scratch)),
+            least(|| _ = maps::backward(&mut work, n, &t, &b, &mut w, &mut scratch)),
+        ];
+        let names = ["check", "labels", "forward", "backward"];
+        let list = names
+            .iter()
+            .zip(times)
+            .map(|(name, t)| format!("{name} {t:.0}"));
+        println!("sphere {i}: {}", list.collect::<Vec<_>>().join(", "));
+        for kind in ["unit", "spike", "signed", "zero"] {
+            let lent = weights(&mut rng, kind, sizes.weights)?;
+            let mut answer = Ok(0);
+            let time = least(|| {
+                w.copy_from_slice(&lent);
+                answer = repair::repair(&mut work, n, &t, &mut w, &mut b, &mut scratch);
+            });
+            println!("  repair, {kind} weights: {time:.0}, {answer:?}");
+        }
+    }
+    Some(true)
+}
