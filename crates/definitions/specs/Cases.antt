@@ -1,17 +1,17 @@
 -- Document 01, "Checked shells": P1 to P11, proved of the definitions as a list under a single theorem, `checked-shells`. Assumes nothing.
 -- Beside them cases of our own that tell the paper's choices from their neighbours. What each expects is worked out from the paper by hand.
-use Prim.Native.Nat.{ℕ, _*_, _-_}
+use Prim.Native.Nat.{ℕ}
 use mathlib.Core.Path.{_≡_, refl}
 use mathlib.Core.List.{List, [], _∷_, map}
 use lib.ListN.{replicate}
-use lib.IntN.{ℤ, pos, negsuc, negℤ}
+use lib.IntN.{ℤ, pos, negℤ}
 use lib.Ieee.{Float, ofBits, binary64}
-use Rattle.definitions.specs.Words.{run, total}
-use Rattle.definitions.specs.Answers.{Answer, done, refused}
+use Rattle.definitions.specs.Words.{total}
+use Rattle.definitions.specs.Answers.{done}
 use Rattle.definitions.specs.Labels.{labels}
 use Rattle.definitions.specs.Forward.{forward}
-use Rattle.definitions.specs.Repair.{area, raise, repair, changed}
-use Rattle.definitions.specs.Drawn.{Snap, whole, snap}
+use Rattle.definitions.specs.Repair.{area, raise}
+use Rattle.definitions.specs.Drawn.{whole, snap}
 use Rattle.definitions.specs.Refusals.{labelsCall, forwardCall, backwardCall, repairCall}
 
 -- each of a list of statements

@@ -1,16 +1,16 @@
 -- Cases of our own that tell the paper's choices from their neighbours, computed of the definitions. What each expects is worked out from the
 -- paper by hand; the comments say how. Assumes nothing.
-use Prim.Native.Nat.{ℕ, _+_, _*_, _-_, _^_}
+use Prim.Native.Nat.{ℕ, _+_, _^_}
 use Prim.Native.String.{String}
 use mathlib.Core.Path.{_≡_, refl}
 use mathlib.Core.List.{List, [], _∷_, _++_}
 use lib.ListN.{replicate}
-use lib.IntN.{ℤ, pos}
+use lib.IntN.{pos}
 use lib.Ieee.{Float, ofBits, binary64}
-use Rattle.definitions.specs.Answers.{Answer, done, refused, plain, after}
+use Rattle.definitions.specs.Answers.{done, refused, plain, after}
 use Rattle.definitions.specs.Repair.{limit}
 use Rattle.definitions.specs.Refusals.{checkCall, labelsCall, forwardCall, backwardCall, repairCall, snapCall}
-use Rattle.definitions.specs.Job.{bytes, hostCall, prints}
+use Rattle.definitions.specs.Job.{bytes, prints}
 use Rattle.definitions.specs.Cases.{Every, all-held, _and_, tetra, stale, lent, zeros, minus, tetraAt}
 use Rattle.definitions.specs.Table.{tetraLines}
 

@@ -1,14 +1,14 @@
 -- Document 01, "Job text and packmap": the layout of a job, its reading, the listing, and the whole outcome of the call for the host service. Definitions only.
 -- A text is the list of its bytes.
-use Prim.Native.Nat.{ℕ, zero, suc, _+_, _-_, _*_, _/_, _%_, _≤_}
+use Prim.Native.Nat.{ℕ, zero, suc, _+_, _-_, _*_, _/_, _%_}
 use Prim.Native.Char.{code}
 use Prim.Native.String.{String}
-use mathlib.Core.Bool.{Bool, true, false, not, _&&_, _||_, cond}
-use mathlib.Core.List.{List, [], _∷_, _++_, map, flatMap}
+use mathlib.Core.Bool.{Bool, true, false, not, _&&_, cond}
+use mathlib.Core.List.{List, [], _∷_, _++_, flatMap}
 use mathlib.Core.Option.{Option, none, some}
 use lib.Dec.{leb, ltb, eqb}
 use lib.ListN.{length, replicate, drop}
-use lib.IntN.{ℤ, pos, negsuc, negℤ}
+use lib.IntN.{ℤ, pos, negsuc}
 use Rattle.definitions.specs.Words.{upto, all, total}
 use Rattle.definitions.specs.Answers.{Refusal, plain, after, outside, broken, number, Answer, done, refused}
 use Rattle.definitions.specs.Mesh.{coordinatesLength, scratchLength}

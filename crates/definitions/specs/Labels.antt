@@ -1,11 +1,11 @@
 -- Document 01, "Labels": the peeling, the labels of corners, and the colours of sides. Definitions only.
-use Prim.Native.Nat.{ℕ, zero, suc, _+_, _-_, _*_}
-use mathlib.Core.Bool.{Bool, true, false, not, _&&_, _||_, cond}
+use Prim.Native.Nat.{ℕ, zero, suc, _*_}
+use mathlib.Core.Bool.{Bool, not, _&&_, _||_, cond}
 use mathlib.Core.List.{List, [], _∷_, _++_, map, flatMap}
 use mathlib.Core.Option.{Option, none, some}
-use lib.Dec.{leb, eqb}
+use lib.Dec.{eqb}
 use lib.ListN.{length, getD}
-use Rattle.definitions.specs.Words.{all, any, keep, iterate, elem, seek, least, front}
+use Rattle.definitions.specs.Words.{all, keep, iterate, elem, seek, least, front}
 use Rattle.definitions.specs.Mesh.{tri, next, prev, corners, org, tip, opp, turns, leaving, inner}
 
 -- The peeling so far: the frontier from v0 to v1, the vertices that have been removed, and a dart for each triangle that has been labelled, at its corner with label 2.

@@ -1,7 +1,7 @@
 -- Document 01, "Mesh and lent slices": darts and sides, and the mesh's own rows 3 to 8 of the table of refusals. Definitions only.
 -- A mesh is n and the flat list `ts` of its triangles' vertex numbers, as it is lent. A mesh that rows 1 to 8 let through is accepted.
 use Prim.Native.Nat.{ℕ, zero, suc, _+_, _-_, _*_, _/_, _%_}
-use mathlib.Core.Bool.{Bool, true, false, not, _&&_, _||_}
+use mathlib.Core.Bool.{Bool, false, not, _&&_, _||_}
 use mathlib.Core.List.{List, [], _∷_}
 use lib.Dec.{leb, eqb}
 use lib.ListN.{length, getD}

@@ -1,8 +1,8 @@
 -- Document 01, "Refusals and what stays": the whole outcome of each public call on lent slices, for every input: its answer, and what every lent
 -- slice that it may write holds at the end. Definitions only. (Slices that a call only reads do not change: it has them by `&`.)
-use Prim.Native.Nat.{ℕ, zero, suc, _+_, _*_}
+use Prim.Native.Nat.{ℕ}
 use mathlib.Core.Path.{_≡_}
-use mathlib.Core.Bool.{Bool, true, false, not, _&&_, _||_, cond}
+use mathlib.Core.Bool.{Bool, false, not, _&&_, _||_, cond}
 use mathlib.Core.List.{List, [], _∷_, _++_, map}
 use mathlib.Core.Option.{Option, none, some}
 use lib.Dec.{leb, ltb, eqb}
@@ -10,13 +10,13 @@ use lib.ListN.{length}
 use lib.IntN.{ℤ, pos, natAbs, _+ℤ_}
 use lib.Signed.{leZ}
 use lib.Ieee.{Float}
-use Rattle.definitions.specs.Words.{upto, all, any, totalAbs}
-use Rattle.definitions.specs.Answers.{Refusal, plain, after, Answer, done, refused, Row, row, ask, verdict}
+use Rattle.definitions.specs.Words.{upto, any, totalAbs}
+use Rattle.definitions.specs.Answers.{plain, after, Answer, done, refused, Row, row, ask, verdict}
 use Rattle.definitions.specs.Mesh.{trianglesLength, labelsLength, weightsLength, coordinatesLength, scratchLength, pointsLength, row3, row4, row5, row6, row7, row8}
 use Rattle.definitions.specs.Labels.{outer, labels}
 use Rattle.definitions.specs.Forward.{forward}
 use Rattle.definitions.specs.Backward.{coordinate, backward}
-use Rattle.definitions.specs.Repair.{limit, Ending, mended, stopped, unfinished, Mending, repair}
+use Rattle.definitions.specs.Repair.{limit, Ending, mended, stopped, unfinished, repair}
 use Rattle.definitions.specs.Drawn.{scaleAllowed, snapAll}
 
 -- ---- the rows

@@ -5,7 +5,7 @@ use mathlib.Core.List.{List, [], _∷_, _++_}
 use lib.ListN.{length, replicate}
 use lib.IntN.{ℤ, pos}
 use lib.Ieee.{Float, ofBits, binary64}
-use Rattle.definitions.specs.Answers.{Answer, done, refused, plain, after, outside, broken}
+use Rattle.definitions.specs.Answers.{refused, plain, after, outside}
 use Rattle.definitions.specs.Repair.{limit}
 use Rattle.definitions.specs.Refusals.{checkCall, forwardCall, backwardCall, repairCall, snapCall}
 use Rattle.definitions.specs.Job.{bytes, hostCall, prints}

@@ -2,7 +2,7 @@
 // its fan. Up: in the opposite order each takes b1 from its left neighbour and b0 from its right one. Last, b2 is what is left of N.
 ghost use mathlib.Core.Path.{_≡_};
 ghost use mathlib.Core.Bool.{false};
-ghost use mathlib.Core.List.{List, map};
+ghost use mathlib.Core.List.{List};
 ghost use Prim.Native.Nat.{ℕ, suc, _+_, _-_, _*_, _<_, _^_};
 ghost use lib.ListN.{length, getD, set};
 ghost use lib.IntN.{pos, natAbs};

@@ -1,10 +1,10 @@
 -- Steps of the writer of a listing, in the shape in which the code hands them over. Assumes nothing.
-use Prim.Native.Nat.{ℕ, zero, suc, _+_, _-_, _*_, _≤_, _<_}
-use mathlib.Core.Path.{_≡_, refl, sym, ap, _∙_}
+use Prim.Native.Nat.{ℕ, zero, suc, _+_, _-_, _≤_, _<_}
+use mathlib.Core.Path.{_≡_, refl, ap, _∙_}
 use mathlib.Core.List.{List, [], _∷_, _++_}
 use native.Mathlib.Omega.{arith}
 use native.Mathlib.Numerals.{add-one}
-use lib.ListN.{length, getD, length-append, List·getD-eq-default}
+use lib.ListN.{length, length-append}
 use lib.IntN.{ℤ, pos}
 use borrow.Author.Tests.{lt-ltb, le-ltb}
 use Rattle.definitions.specs.Backward.{coordinate}
@@ -12,16 +12,6 @@ use Rattle.definitions.specs.Job.{bytes, packMap, writeLine, listing}
 use Rattle.textlaws.specs.Writing.{Wrote, wrote-none, wrote-then, wrote-length, restOf, putRest, headOf, vertexLine, vertexLines, listing-is}
 use Rattle.joblist.specs.declared.Listed.the-variants.{Bytes, Short}
 use Rattle.joblist.specs.Outcome.{Listing}
-
--- ---- coordinates
-
-pub coordinate-in : (bs : List ℤ) (c i : ℕ) (z : ℤ) → z ≡ getD bs (3 * i + c) (pos 0) → z ≡ coordinate bs c i
-unfolding coordinate
-coordinate-in bs c i z e = e
-
-pub coordinate-out : (bs : List ℤ) (c i : ℕ) → length bs ≤ 3 * i + c → pos 0 ≡ coordinate bs c i
-unfolding coordinate
-coordinate-out bs c i h = sym (List·getD-eq-default bs (pos 0) {n = 3 * i + c} h)
 
 -- ---- a line by its numbers
 

@@ -1,8 +1,8 @@
 // The listing of a repaired job: its length is counted first, and it is written only where the buffer has room for all of it.
-ghost use Prim.Native.Nat.{suc, _+_, _*_, _<_, _≤_, _^_};
+ghost use Prim.Native.Nat.{_+_, _*_, _<_, _≤_};
 ghost use mathlib.Core.Path.{_≡_};
 ghost use mathlib.Core.List.{[], _∷_};
-ghost use lib.ListN.{length, getD};
+ghost use lib.ListN.{length};
 ghost use lib.IntN.{pos};
 ghost use Rattle.definitions.specs.Backward.{coordinate};
 ghost use Rattle.definitions.specs.Job.{listing};
@@ -22,15 +22,6 @@ fn number(k: usize) -> i64
     k as i64
 }
 
-// Coordinate c of vertex i: 0 past the end.
-fn coordinate_of(bs: &[i64], c: usize, i: usize) -> i64
-    requires { ⌜ (c < 3) × (i < 65536) ⌝ }
-    ensures { λ r. ⌜ r ≡ coordinate (now (bs .entry)) c i ⌝ }
-{
-    let k = 3 * i + c;
-    if k < bs.len() { bs[k] } else { 0 }
-}
-
 // The numbers of a vertex's line.
 fn vertex_numbers(i: usize, bs: &[i64]) -> [i64; 4]
     requires { ⌜ i < 65536 ⌝ }
@@ -38,9 +29,9 @@ fn vertex_numbers(i: usize, bs: &[i64]) -> [i64; 4]
 {
     [
         number(i),
-        coordinate_of(bs, 0, i),
-        coordinate_of(bs, 1, i),
-        coordinate_of(bs, 2, i),
+        whole::coordinate_of(bs, 0, i),
+        whole::coordinate_of(bs, 1, i),
+        whole::coordinate_of(bs, 2, i),
     ]
 }
 

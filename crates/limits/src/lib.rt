@@ -3,7 +3,6 @@ ghost use mathlib.Core.Path.{_≡_};
 ghost use mathlib.Core.Bool.{false, not};
 ghost use Prim.Native.Nat.{_<_};
 ghost use lib.IntN.{_+ℤ_};
-ghost use Rattle.definitions.specs.Repair.{limit};
 ghost use Rattle.definitions.specs.Backward.{coordinate};
 ghost use Rattle.definitions.specs.Refusals.{stands, row9, row10, row11, row12};
 ghost use Rattle.limits.specs.Limits.{balanced};

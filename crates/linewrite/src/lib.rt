@@ -1,7 +1,7 @@
 // Lines written at the front of a slice: a word, numbers after tabs, and LF. Each writer answers how many bytes it wrote.
-ghost use Prim.Native.Nat.{suc, _+_, _*_, _<_, _≤_};
+ghost use Prim.Native.Nat.{suc, _+_, _<_, _≤_};
 ghost use mathlib.Core.Path.{_≡_};
-ghost use mathlib.Core.List.{[], _∷_};
+ghost use mathlib.Core.List.{_∷_};
 ghost use lib.ListN.{length, getD};
 ghost use lib.IntN.{pos};
 ghost use Rattle.definitions.specs.Job.{TAB, decimal, writeLine};

@@ -1,47 +1,16 @@
 -- A turn of each loop, and a sign, in the shape in which the code hands them over. Assumes nothing.
-use Prim.Native.Nat.{ℕ, zero, suc, _+_, _-_, _/_, _%_, _≤_, _<_, _^_}
+use Prim.Native.Nat.{ℕ, zero, suc, _+_, _-_, _/_, _%_, _≤_, _<_}
 use mathlib.Core.Path.{_≡_, refl, sym, ap, _∙_}
 use mathlib.Core.Bool.{Bool, true, false, true≢false}
 use mathlib.Core.List.{List, [], _∷_, _++_}
 use native.Mathlib.Omega.{arith}
-use lib.Dec.{T}
-use borrow.Author.Tests.{ltb-true, le-ltb}
 use lib.ListN.{length, take, drop, set, length-append, take-append-drop, List·getD-append}
 use lib.Seq.{take-all, drop-at}
-use lib.IntN.{ℤ, pos, negsuc, natAbs, _-ℤ_}
-use lib.Signed.{ltZ, nonNeg}
-use mir.Syntax.{w64}
-use mir.Val.{SFits}
+use lib.IntN.{ℤ, pos, natAbs}
+use lib.Signed.{ltZ}
 use Rattle.definitions.specs.Job.{value, decimal}
 use Rattle.textlaws.specs.Numbers.{numeral, numeral-digits, numeral-value, signed, decimal-signed, Last, last-digit}
 use Rattle.textlaws.specs.Writing.{Puts, fill-back}
-
--- ---- signs
-
--- -1 less a number below 0 is one less than its absolute value
-opposite : (n : ℕ) → negsuc 0 -ℤ negsuc n ≡ pos n
-opposite n =
-    let e : suc n - 1 ≡ n = omega arith in
-    rw (le-ltb (suc n) 1 (omega arith), e)
-
--- what the code asks of it, and what it gives
-pub record Opposite (z : ℤ) : Type 0 where
-  pub fits : SFits w64 (negsuc 0 -ℤ z)
-  pub above : T (nonNeg (negsuc 0 -ℤ z))
-  pub count : natAbs (negsuc 0 -ℤ z) + 1 ≡ natAbs z
-
-pub opposite-of : (z : ℤ) → ltZ z (pos 0) ≡ true → SFits w64 z → Opposite z
-opposite-of (pos n) e f = absurd (omega (arith, ltb-true n 0 e))
-opposite-of (negsuc n) e f =
-    record { fits = rw (opposite n) (record { sfits = f .sfits }); above = rw (opposite n) tt; count = rw (opposite n) (omega arith) }
-
-pub size : (z : ℤ) → SFits w64 z → natAbs z ≤ 2 ^ 63
-size (pos n) f = omega (arith, f .sfits)
-size (negsuc n) f = omega (arith, f .sfits)
-
-pub above-zero : (z : ℤ) → ltZ z (pos 0) ≡ false → T (nonNeg z)
-above-zero (pos n) e = tt
-above-zero (negsuc n) e = absurd (true≢false e)
 
 -- ---- digits, from the last to the first
 

@@ -1,10 +1,8 @@
 // Decimal numbers as the listing has them, written at the front of a slice. Each writer answers how many bytes it wrote.
-ghost use Prim.Native.Nat.{suc, _+_, _<_, _≤_, _^_};
+ghost use Prim.Native.Nat.{_+_, _<_, _≤_};
 ghost use mathlib.Core.Path.{_≡_};
 ghost use mathlib.Core.List.{[], _∷_};
 ghost use lib.ListN.{length};
-ghost use lib.IntN.{pos, natAbs};
-ghost use lib.Signed.{ltZ};
 ghost use Rattle.definitions.specs.Job.{decimal};
 ghost use Rattle.textlaws.specs.Numbers.{numeral, signed};
 ghost use Rattle.textlaws.specs.Writing.{Puts, Wrote};
@@ -45,28 +43,11 @@ fn put_natural(n: u64, out: &mut [u8]) -> usize
     count
 }
 
-fn below_zero(z: i64) -> bool
-    ensures { λ r. ⌜ r ≡ ltZ z (pos 0) ⌝ }
-{
-    z < 0
-}
-
-// The absolute value, also of the least number.
-fn magnitude(z: i64) -> u64
-    ensures { λ r. ⌜ r ≡ natAbs z ⌝ }
-{
-    if below_zero(z) {
-        ((-1 - z) as u64) + 1
-    } else {
-        z as u64
-    }
-}
-
 // How many bytes z has, with its sign.
 pub fn decimal_length(z: i64) -> usize
     ensures { λ r. ⌜ (r ≡ length (decimal z)) × (r ≤ 21) ⌝ }
 {
-    signed_length(below_zero(z), magnitude(z))
+    signed_length(whole::less(z, 0), whole::magnitude(z) as u64)
 }
 
 fn signed_length(minus: bool, m: u64) -> usize
@@ -100,7 +81,7 @@ pub fn put_decimal(z: i64, out: &mut [u8]) -> usize
     requires { ⌜ length (decimal z) ≤ length (now out) ⌝ }
     ensures { λ r. ⌜ Wrote (decimal z) (now (out .entry)) (now (out .exit)) r ⌝ }
 {
-    let minus = below_zero(z);
-    let m = magnitude(z);
+    let minus = whole::less(z, 0);
+    let m = whole::magnitude(z) as u64;
     put_signed(minus, m, &mut *out)
 }

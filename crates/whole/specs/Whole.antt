@@ -4,13 +4,14 @@ use mathlib.Core.Path.{_≡_, refl}
 use mathlib.Core.Bool.{true, false}
 use native.Mathlib.Omega.{arith}
 use lib.Dec.{T}
-use lib.IntN.{ℤ, pos, negsuc, negℤ, natAbs, _+ℤ_, _-ℤ_, _*ℤ_}
+use lib.IntN.{ℤ, pos, negsuc, negℤ, natAbs, _-ℤ_, _*ℤ_}
 use lib.Signed.{mag, ltZ, leZ, nonNeg}
 use mir.Syntax.{w64}
 use mir.Val.{SFits, toZ, ofZ}
 use mir.Facts.{toZ-ofZ}
 use borrow.Author.Tests.{le-ltb}
-use Rattle.laws.specs.Integers.{up, dn, ≡z, zabs, z+, z-}
+use Rattle.laws.specs.Integers.{up, dn, ≡z, z-}
+use Rattle.laws.specs.Sums.{abs-+}
 use Rattle.definitions.specs.Refusals.{eqZ}
 
 -- a number with an absolute value below half the range fits
@@ -18,21 +19,14 @@ pub fits-abs : (z : ℤ) → natAbs z < 2 ^ 63 → SFits w64 z
 fits-abs (pos n) h = record { sfits = h }
 fits-abs (negsuc n) h = record { sfits = omega arith }
 
--- absolute values of a sum, a difference, a product
-abs-from : (z : ℤ) (p q : ℕ) → up z + q ≡ p + dn z → natAbs z ≤ p + q
-unfolding up dn
-abs-from (pos n) p q e = omega arith
-abs-from (negsuc n) p q e = omega arith
-
-pub abs-plus : (a b : ℤ) → natAbs (a +ℤ b) ≤ natAbs a + natAbs b
-abs-plus a b = omega (arith, abs-from (a +ℤ b) (up a + up b) (dn a + dn b) (omega (arith, z+ a b)), zabs a, zabs b)
-
-pub abs-minus : (a b : ℤ) → natAbs (a -ℤ b) ≤ natAbs a + natAbs b
-abs-minus a b = omega (arith, abs-from (a -ℤ b) (up a + dn b) (dn a + up b) (omega (arith, z- a b)), zabs a, zabs b)
-
+-- absolute values of a difference, a product
 abs-neg : (n : ℕ) → natAbs (negℤ (pos n)) ≡ n
 abs-neg zero = refl
 abs-neg (suc n) = refl
+
+pub abs-minus : (a b : ℤ) → natAbs (a -ℤ b) ≤ natAbs a + natAbs b
+abs-minus a (pos b) = omega (arith, abs-+ a (negℤ (pos b)), abs-neg b)
+abs-minus a (negsuc b) = abs-+ a (pos (suc b))
 
 pub abs-times : (a b : ℤ) → natAbs (a *ℤ b) ≡ natAbs a * natAbs b
 abs-times (pos a) (pos b) = refl

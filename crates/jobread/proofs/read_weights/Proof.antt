@@ -1,7 +1,7 @@
 -- `jobread::read_weights` meets its contract. The loop's invariant, `Reads`: the lines read so far gave the first numbers of the slice, and the rest of the lines give the rest. Assumes nothing.
 use mathlib.Core.List.{[], _∷_, _++_}
 use mathlib.Core.Path.{_≡_, refl, sym, ap, _∙_}
-use Prim.Native.Nat.{ℕ, _+_, _-_}
+use Prim.Native.Nat.{ℕ, _-_}
 use native.Mathlib.Omega.{arith}
 use lib.IntN.{ℤ}
 use lib.ListN.{length, take, drop}

@@ -1,7 +1,7 @@
 -- `linewrite::put_bytes` meets its contract. The loop's invariant: the bytes so far are copied, and the others are as they were. Assumes nothing.
 use mathlib.Core.Path.{_≡_, refl}
 use mathlib.Core.List.{_++_}
-use Prim.Native.Nat.{_+_, _-_, _≤_}
+use Prim.Native.Nat.{_-_, _≤_}
 use native.Mathlib.Omega.{arith}
 use lib.ListN.{length, take, drop, length-set}
 use Rattle.linewrite.specs.Steps.{copy-more, copy-all}

@@ -1,6 +1,5 @@
 -- `linewrite::put_line` meets its contract. The word at the front, the numbers into the rest, and LF after them. Assumes nothing.
 use mathlib.Core.List.{[], _∷_, _++_}
-use Prim.Native.Nat.{_+_}
 use native.Mathlib.Omega.{arith}
 use borrow.Author.Needs.{needs}
 use Rattle.definitions.specs.Job.{LF}

@@ -10,8 +10,8 @@ use Rattle.numwrite.specs.Steps.{decimal-found}
 use Rattle.numwrite.proofs.decimal_length.Statement.{statement}
 use Rattle.numwrite.proofs.decimal_length.Tie as tie
 
-below-zero-requires : tie.Need-below-zero-requires
-below-zero-requires c κs = search needs
+less-requires : tie.Need-less-requires
+less-requires c κs = search needs
 
 magnitude-requires : tie.Need-magnitude-requires
 magnitude-requires c κs = search needs
@@ -22,10 +22,10 @@ signed-length-requires c κs = search needs
 returns : tie.Need-returns
 returns c =
     let start = c .before .before .before in
-    let at-below-zero = c .before .before in
-    let d = decimal-found (start .args .z) _ _ (at-below-zero .below-zero .ensures ∙ ap (λ (x : ℤ). ltZ x (pos 0)) (toZ-ofZ (start .fits .z))) (c .before .magnitude .ensures ∙ ap natAbs (toZ-ofZ (start .fits .z))) in
+    let at-less = c .before .before in
+    let d = decimal-found (start .args .z) _ _ (at-less .less .ensures ∙ ap (λ (x : ℤ). ltZ x (pos 0)) (toZ-ofZ (start .fits .z))) (c .before .magnitude .ensures .0 ∙ ap natAbs (toZ-ofZ (start .fits .z))) in
     (c .signed-length .ensures .0 ∙ ap {B = ℕ} length (sym d), c .signed-length .ensures .1)
 
 pub decimal-length-spec : {M : Type 1} → statement M
 decimal-length-spec =
-    tie.close (tie.spec below-zero-requires magnitude-requires signed-length-requires returns)
+    tie.close (tie.spec less-requires magnitude-requires signed-length-requires returns)

@@ -11,8 +11,8 @@ use Rattle.numwrite.specs.Steps.{decimal-found}
 use Rattle.numwrite.proofs.put_decimal.Statement.{statement}
 use Rattle.numwrite.proofs.put_decimal.Tie as tie
 
-below-zero-requires : tie.Need-below-zero-requires
-below-zero-requires c κs = search needs
+less-requires : tie.Need-less-requires
+less-requires c κs = search needs
 
 magnitude-requires : tie.Need-magnitude-requires
 magnitude-requires c κs = search needs
@@ -20,8 +20,8 @@ magnitude-requires c κs = search needs
 put-signed-requires : tie.Need-put-signed-requires
 put-signed-requires c κs =
     let start = c .before .before .before .before in
-    let at-below-zero = c .before .before in
-    let d = decimal-found (start .args .z) _ _ (at-below-zero .below-zero .ensures ∙ ap (λ (x : ℤ). ltZ x (pos 0)) (toZ-ofZ (start .fits .z))) (c .before .magnitude .ensures ∙ ap natAbs (toZ-ofZ (start .fits .z))) in
+    let at-less = c .before .before in
+    let d = decimal-found (start .args .z) _ _ (at-less .less .ensures ∙ ap (λ (x : ℤ). ltZ x (pos 0)) (toZ-ofZ (start .fits .z))) (c .before .magnitude .ensures .0 ∙ ap natAbs (toZ-ofZ (start .fits .z))) in
     subst (λ (l : List ℕ). length l ≤ length (start .args .out .now)) d (start .pre)
 
 same-length : tie.Need-same-length
@@ -30,13 +30,13 @@ same-length c = search needs
 returns : tie.Need-returns
 returns c =
     let start = c .before .before .before .before .before .before .before in
-    let at-below-zero = c .before .before .before .before .before in
+    let at-less = c .before .before .before .before .before in
     let at-magnitude = c .before .before .before .before in
     let at-put-signed = c .before .before in
-    let d = decimal-found (start .args .z) _ _ (at-below-zero .below-zero .ensures ∙ ap (λ (x : ℤ). ltZ x (pos 0)) (toZ-ofZ (start .fits .z))) (at-magnitude .magnitude .ensures ∙ ap natAbs (toZ-ofZ (start .fits .z))) in
+    let d = decimal-found (start .args .z) _ _ (at-less .less .ensures ∙ ap (λ (x : ℤ). ltZ x (pos 0)) (toZ-ofZ (start .fits .z))) (at-magnitude .magnitude .ensures .0 ∙ ap natAbs (toZ-ofZ (start .fits .z))) in
     rw d (at-put-signed .put-signed .ensures)
 
 pub put-decimal-spec : {M : Type 1} → statement M
 put-decimal-spec =
     tie.close
-    (tie.spec below-zero-requires magnitude-requires put-signed-requires same-length returns)
+    (tie.spec less-requires magnitude-requires put-signed-requires same-length returns)

@@ -21,7 +21,7 @@ use types.Run.{look, init, forget, stop, from, load, and-then, no-more, land, re
 use sound.WpLaws.{FmC, fmOf, WpFn-mono}
 use denote.RattleType.{RattleType, owns}
 use denote.Laws.{Is, shows}
-use denote.Plain.{uint-vals, uint-tells, uint-makes, uint-lawful}
+use denote.Plain.{uint-vals, uint-tells, uint-makes}
 use denote.Builtin.{u8, usize}
 use denote.Ref.{RefT, NamedLft, now}
 use denote.Signature.{plain, namedLft}
@@ -36,7 +36,6 @@ use denote.Triple.Table.{entered, cited}
 use denote.Triple.Walked.{says, Stays, stay-none, stay-none-slice, walkOf, goes-none, goes-none-slice, Walks, ends-at, walked, walk-meets}
 use denote.Exit.{yes}
 use denote.Triple.Clauses.{ensured, lasts}
-use Rattle.textlaws.specs.Parts.{nextLine}
 use Rattle.textreader.specs.declared.Reader.{Reader}
 use Rattle.textreader.proofs.Reader as T
 use Rattle.textreader.proofs.Reader.Laws as T′
