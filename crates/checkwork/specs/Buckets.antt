@@ -1,6 +1,7 @@
 -- The darts that leave each vertex, as linked lists in the tables. Assumes nothing.
--- `head v` is the first of them, `count v` their number, and the one after dart d stands in `op`, at the place of d's previous dart. That place is
--- free: the opposite of `prev d`, a dart that arrives at the origin of d, is found while the list of that origin is walked, and replaces the link.
+-- `head v` is the first of them, `count v` their number. The link of dart d stands in `op`, at the place of d's previous dart, and names the previous
+-- dart of the one after d: so a walk goes along darts that arrive at v, from word to word. That place is free: the opposite of `prev d`, a dart that
+-- arrives at the origin of d, is found while the list of that origin is walked, and replaces the link.
 use Prim.Native.Nat.{ℕ, zero, suc, _+_, _-_, _≤_, _<_}
 use mathlib.Core.Path.{_≡_, refl, sym, ap, _∙_}
 use mathlib.Core.Logic.{_≢_}
@@ -11,19 +12,20 @@ use lib.Dec.{eqb}
 use lib.ListN.{length}
 use borrow.Author.Tests.{eq-eqb, ne-eqb}
 use Rattle.definitions.specs.Words.{run, upto, keep}
-use Rattle.definitions.specs.Mesh.{prev, org, darts, leaving}
+use Rattle.definitions.specs.Mesh.{next, prev, org, darts, leaving}
 use Rattle.laws.specs.Lists.{_∈_, keep-in, run-in}
+use Rattle.sphere.specs.Darts.{next-prev}
 use Rattle.tables.specs.Tables.{Tables, upd, upd-same, upd-at, upd-other, setOp, setHead, setCount, blank}
 
 -- k darts: d, and those that the links lead to
 unfoldable pub chain : (ℕ → ℕ) → ℕ → ℕ → List ℕ
 chain op zero d = []
-chain op (suc k) d = d ∷ chain op k (op (prev d))
+chain op (suc k) d = d ∷ chain op k (next (op (prev d)))
 
 pub length-chain : (op : ℕ → ℕ) (k d : ℕ) → length (chain op k d) ≡ k
 unfolding chain
 length-chain op zero d = refl
-length-chain op (suc k) d = ap suc (length-chain op k (op (prev d)))
+length-chain op (suc k) d = ap suc (length-chain op k (next (op (prev d))))
 
 pub prev-once : (d e : ℕ) → prev d ≡ prev e → d ≡ e
 unfolding prev
@@ -35,7 +37,7 @@ unfolding chain
 chain-other op e x zero h f = refl
 chain-other op e x (suc k) h f =
     rw (upd-other e (prev h) x op (f h (List·Memᴰ·head refl)))
-    (ap (λ (zs : List ℕ). h ∷ zs) (chain-other op e x k (op (prev h)) (λ d m. f d (List·Memᴰ·tail m))))
+    (ap (λ (zs : List ℕ). h ∷ zs) (chain-other op e x k (next (op (prev h))) (λ d m. f d (List·Memᴰ·tail m))))
 
 -- nor does another function with the same links
 pub chain-same : (op op′ : ℕ → ℕ) (k h : ℕ) → ((d : ℕ) → d ∈ chain op k h → op′ (prev d) ≡ op (prev d)) → chain op′ k h ≡ chain op k h
@@ -43,7 +45,7 @@ unfolding chain
 chain-same op op′ zero h f = refl
 chain-same op op′ (suc k) h f =
     rw (f h (List·Memᴰ·head refl))
-    (ap (λ (zs : List ℕ). h ∷ zs) (chain-same op op′ k (op (prev h)) (λ d m. f d (List·Memᴰ·tail m))))
+    (ap (λ (zs : List ℕ). h ∷ zs) (chain-same op op′ k (next (op (prev h))) (λ d m. f d (List·Memᴰ·tail m))))
 
 pub chain-head : (op : ℕ → ℕ) (k d : ℕ) → 0 < k → d ∈ chain op k d
 unfolding chain
@@ -51,14 +53,14 @@ chain-head op zero d h = absurd (omega arith)
 chain-head op (suc k) d h = List·Memᴰ·head refl
 
 -- a dart put in front of a list
-pub chain-front : (op : ℕ → ℕ) (e h k d : ℕ) → prev d ≡ e → chain (upd e h op) (suc k) d ≡ d ∷ chain (upd e h op) k h
+pub chain-front : (op : ℕ → ℕ) (e h k d : ℕ) → prev d ≡ e → chain (upd e (prev h) op) (suc k) d ≡ d ∷ chain (upd e (prev h) op) k h
 unfolding chain
-chain-front op e h k d q = rw (upd-at e (prev d) h op q)
+chain-front op e h k d q = rw (upd-at e (prev d) (prev h) op q, next-prev h)
 
 module _ (ts : List ℕ) where
   -- dart d goes to the front of its origin's list
   unfoldable pub push : ℕ → Tables → Tables
-  push d t = setCount (org ts d) (t .count (org ts d) + 1) (setHead (org ts d) d (setOp (prev d) (t .head (org ts d)) t))
+  push d t = setCount (org ts d) (t .count (org ts d) + 1) (setHead (org ts d) d (setOp (prev d) (prev (t .head (org ts d))) t))
 
   -- the darts below k do, the last of them first
   unfoldable pub fill : ℕ → Tables → Tables
@@ -83,11 +85,11 @@ module _ (ts : List ℕ) where
         | yes e ↦
             let one : t .count v + 1 ≡ suc (t .count v) = omega arith in
             rw (e, more, upd-same v (t .count v + 1) (t .count), upd-same v d (t .head), eq-eqb (org ts d) v e, one)
-            (chain-front (t .op) (prev d) (t .head v) (t .count v) d refl ∙ ap (λ (zs : List ℕ). d ∷ zs) (beside (t .head v)))
+            (chain-front (t .op) (prev d) (t .head v) (t .count v) d refl ∙ ap (λ (zs : List ℕ). d ∷ zs) (beside (prev (t .head v))))
         | no e ↦
             let f : v ≢ org ts d = λ q. e (sym q) in
             rw (more, upd-other (org ts d) v (t .count (org ts d) + 1) (t .count) f, upd-other (org ts d) v d (t .head) f, ne-eqb (org ts d) v e)
-            (beside (t .head (org ts d)))
+            (beside (prev (t .head (org ts d))))
       ]
 
   fill-holds : (k : ℕ) (t : Tables) → k ≤ length ts → Holding k t → Holding 0 (fill k t)
@@ -121,6 +123,27 @@ module _ (ts : List ℕ) where
   pub blank-counts : Counted (length ts) blank
   unfolding blank
   blank-counts v = omega arith
+
+  -- and a head is a dart
+  abbrev pub Headed : Tables → Type 0
+  Headed t = (v : ℕ) → t .head v ≤ length ts
+
+  pub push-heads : (d : ℕ) (t : Tables) → d < length ts → Headed t → Headed (push d t)
+  unfolding push setOp setHead setCount
+  push-heads d t h I v =
+      elim (ℕ-discrete v (org ts d)) [
+        | yes e ↦ rw (upd-at (org ts d) v d (t .head) e) (omega arith)
+        | no e ↦ rw (upd-other (org ts d) v d (t .head) e) (I v)
+      ]
+
+  pub fill-heads : (k : ℕ) (t : Tables) → k ≤ length ts → Headed t → Headed (fill k t)
+  unfolding fill
+  fill-heads zero t h I = I
+  fill-heads (suc k) t h I = fill-heads k (push k t) (omega arith) (push-heads k t h I)
+
+  pub blank-heads : Headed blank
+  unfolding blank
+  blank-heads v = omega arith
 
   -- only these tables change, and all marks stay
   pub fill-mark : (k : ℕ) (t : Tables) → fill k t .mark ≡ t .mark

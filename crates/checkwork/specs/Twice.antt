@@ -1,6 +1,6 @@
--- Row 5 by marks: the darts that leave a vertex are walked, each leaves its number at the vertex that it leads to, and one that finds another dart
--- of the same side there is a side twice. A mark is tried by its side before it counts, so marks of earlier walks do no harm. Assumes nothing.
-use Prim.Native.Nat.{ℕ, zero, suc, _+_, _≤_, _<_}
+-- Row 5 by marks: the darts that leave a vertex are walked, and each leaves a mark at the vertex that it leads to; one that finds a mark of the same
+-- vertex there is a side twice. A mark names its vertex, so marks of earlier walks do no harm. Assumes nothing.
+use Prim.Native.Nat.{ℕ, zero, suc, _+_, _*_, _/_, _%_, _≤_, _<_}
 use mathlib.Core.Path.{_≡_, refl, sym, ap, _∙_}
 use mathlib.Core.Logic.{_≢_, _⊎_, inl, inr, ⊎-elim}
 use mathlib.Core.Bool.{Bool, true, false, cond, not, _&&_}
@@ -9,180 +9,229 @@ use native.Mathlib.Omega.{arith}
 use native.Mathlib.Decide.{ℕ-discrete}
 use lib.Dec.{eqb}
 use lib.ListN.{length}
-use borrow.Author.Tests.{eq-eqb, ne-eqb}
+use borrow.Author.Tests.{eq-eqb, ne-eqb, eqb-true}
 use Rattle.definitions.specs.Words.{any}
 use Rattle.definitions.specs.Mesh.{org, tip, same, darts, leaving, row5}
-use Rattle.laws.specs.Lists.{_∈_, tested, clash, untrue, true-any}
+use Rattle.laws.specs.Lists.{_∈_, tested, clash, true-any}
 use Rattle.laws.specs.Counting.{Distinct, distinct-head, distinct-tail}
 use Rattle.sphere.specs.Rows.{Once, in-darts, leaving-in, in-leaving, distinct-leaving, row5-means}
 use Rattle.tables.specs.Tables.{Tables, upd, upd-same, upd-at, upd-other}
-use Rattle.checkwork.specs.Buckets.{chain, Bucketed}
+use Rattle.checkwork.specs.Buckets.{chain}
+
+-- the mark of dart d of vertex v: v, counted from 1, above the dart
+unfoldable pub noted : ℕ → ℕ → ℕ
+noted v d = 65536 * (v + 1) + d % 65536
+
+-- a mark of vertex v
+unfoldable pub isOf : ℕ → ℕ → Bool
+isOf v m = eqb (m / 65536) (v + 1)
+
+pub is-of : (v m : ℕ) → isOf v m ≡ true → m / 65536 ≡ v + 1
+unfolding isOf
+is-of v m e = eqb-true (m / 65536) (v + 1) e
+
+noted-vertex : (v d : ℕ) → noted v d / 65536 ≡ v + 1
+unfolding noted
+noted-vertex v d = omega arith
+
+pub noted-dart : (v d : ℕ) → d < 65536 → noted v d % 65536 ≡ d
+unfolding noted
+noted-dart v d h = omega arith
+
+pub noted-is : (v d : ℕ) → isOf v (noted v d) ≡ true
+unfolding isOf
+noted-is v d = eq-eqb (noted v d / 65536) (v + 1) (noted-vertex v d)
+
+-- Marks are of vertices below v. (Where there is none, 0 is of no vertex.)
+abbrev pub Before : ℕ → (ℕ → ℕ) → Type 0
+Before v mark = (w : ℕ) → mark w / 65536 ≤ v
 
 pub record Scan : Type 0 where
   pub found : Bool
   pub mark : ℕ → ℕ
 
 module _ (ts : List ℕ) where
-  -- dart d finds another dart of its side at the vertex that it leads to
-  unfoldable pub clashes : (ℕ → ℕ) → ℕ → Bool
-  clashes mark d = not (eqb d (mark (tip ts d))) && same ts d (mark (tip ts d))
+  -- dart d of vertex v finds a mark of v at the vertex that it leads to
+  unfoldable pub clashes : ℕ → (ℕ → ℕ) → ℕ → Bool
+  clashes v mark d = isOf v (mark (2 * tip ts d))
 
   -- the darts of a list, in turn
-  unfoldable pub scan : List ℕ → (ℕ → ℕ) → Scan
-  scan [] mark = record { found = false; mark = mark }
-  scan (d ∷ ds) mark = cond (clashes mark d) (record { found = true; mark = mark }) (scan ds (upd (tip ts d) d mark))
+  unfoldable pub scan : ℕ → List ℕ → (ℕ → ℕ) → Scan
+  scan v [] mark = record { found = false; mark = mark }
+  scan v (d ∷ ds) mark =
+      cond (clashes v mark d) (record { found = true; mark = mark }) (scan v ds (upd (2 * tip ts d) (noted v d) mark))
 
-  pub scan-clash : (d : ℕ) (ds : List ℕ) (mark : ℕ → ℕ) → clashes mark d ≡ true → scan (d ∷ ds) mark ≡ record { found = true; mark = mark }
+  pub scan-clash : (v d : ℕ) (ds : List ℕ) (mark : ℕ → ℕ) → clashes v mark d ≡ true → scan v (d ∷ ds) mark ≡ record { found = true; mark = mark }
   unfolding scan
-  scan-clash d ds mark e = rw e
+  scan-clash v d ds mark e = rw e
 
-  pub scan-on : (d : ℕ) (ds : List ℕ) (mark : ℕ → ℕ) → clashes mark d ≡ false → scan (d ∷ ds) mark ≡ scan ds (upd (tip ts d) d mark)
+  pub scan-on : (v d : ℕ) (ds : List ℕ) (mark : ℕ → ℕ) → clashes v mark d ≡ false
+      → scan v (d ∷ ds) mark ≡ scan v ds (upd (2 * tip ts d) (noted v d) mark)
   unfolding scan
-  scan-on d ds mark e = rw e
+  scan-on v d ds mark e = rw e
 
   -- k vertices from v on, over lists that stay
   unfoldable pub scanAll : Tables → ℕ → ℕ → (ℕ → ℕ) → Scan
   scanAll t zero v mark = record { found = false; mark = mark }
   scanAll t (suc k) v mark =
-      let r = scan (chain (t .op) (t .count v) (t .head v)) mark in cond (r .found) r (scanAll t k (suc v) (r .mark))
+      let r = scan v (chain (t .op) (t .count v) (t .head v)) mark in cond (r .found) r (scanAll t k (suc v) (r .mark))
 
-  -- ---- marks are darts
+  -- ---- what the marks say while the darts of v are walked
 
-  abbrev pub Darts : (ℕ → ℕ) → Type 0
-  Darts mark = (w : ℕ) → mark w < length ts
+  -- Each dart of `In` has its mark, and there is no other mark of v.
+  pub record Noted (v : ℕ) (In : ℕ → Type 0) (mark : ℕ → ℕ) : Type 0 where
+    pub each : (p : ℕ) → In p → mark (2 * tip ts p) ≡ noted v p
+    pub only : (w : ℕ) → mark (2 * w) / 65536 ≡ v + 1 → (p : ℕ) × (In p) × (tip ts p ≡ w)
+    pub low : Before (suc v) mark
 
-  pub upd-darts : (mark : ℕ → ℕ) (w d : ℕ) → d < length ts → Darts mark → Darts (upd w d mark)
-  upd-darts mark w d h M x =
-      elim (ℕ-discrete x w) [ yes e ↦ rw (upd-at w x d mark e) h | no e ↦ rw (upd-other w x d mark e) (M x) ]
+  noted-none : (v : ℕ) (mark : ℕ → ℕ) → Before v mark → Noted v (λ p. ⊥) mark
+  noted-none v mark B = record {
+    each = λ p m. absurd m;
+    only = λ w h. absurd (omega (arith, B (2 * w), h));
+    low = λ w. omega (arith, B w);
+  }
 
-  pub scan-darts : (ds : List ℕ) (mark : ℕ → ℕ) → ((d : ℕ) → d ∈ ds → d < length ts) → Darts mark → Darts (scan ds mark .mark)
+  noted-as : (v : ℕ) (In In′ : ℕ → Type 0) (mark : ℕ → ℕ) → ((p : ℕ) → In p → In′ p) → ((p : ℕ) → In′ p → In p) → Noted v In mark → Noted v In′ mark
+  noted-as v In In′ mark f g N = record {
+    each = λ p m. N .each p (g p m);
+    only = λ w h. let r = N .only w h in (r .0, f (r .0) (r .1), r .2);
+    low = N .low;
+  }
+
+  -- one that finds no mark of v leaves its own
+  noted-one : (v : ℕ) (In : ℕ → Type 0) (mark : ℕ → ℕ) (d : ℕ) → Noted v In mark → clashes v mark d ≡ false
+      → Noted v (λ p. (In p) ⊎ (p ≡ d)) (upd (2 * tip ts d) (noted v d) mark)
+  unfolding clashes
+  noted-one v In mark d N c =
+      let here = 2 * tip ts d in
+      let far : (p : ℕ) → In p → 2 * tip ts p ≢ here = λ p m q.
+      let e : mark here ≡ noted v p = sym (ap mark q) ∙ N .each p m in
+      clash (ap (isOf v) e ∙ noted-is v p) c in
+      record {
+        each = λ p m.
+            ⊎-elim
+            (λ k. upd-other here (2 * tip ts p) (noted v d) mark (far p k) ∙ N .each p k)
+            (λ q. rw q (upd-same here (noted v d) mark))
+            m;
+        only = λ w h.
+            elim (ℕ-discrete w (tip ts d)) [
+              | yes q ↦ (d, inr refl, sym q)
+              | no q ↦
+                  let r = N .only w (ap (λ (x : ℕ). x / 65536) (sym (upd-other here (2 * w) (noted v d) mark (omega (arith, q)))) ∙ h) in
+                  (r .0, inl (r .1), r .2)
+            ];
+        low = λ w.
+            elim (ℕ-discrete w here) [
+              | yes q ↦ rw (upd-at here w (noted v d) mark q) (omega (arith, noted-vertex v d))
+              | no q ↦ rw (upd-other here w (noted v d) mark q) (N .low w)
+            ];
+      }
+
+  -- a walk that finds nothing leaves the marks of all its darts
+  scan-notes : (v : ℕ) (ds : List ℕ) (In : ℕ → Type 0) (mark : ℕ → ℕ) → Noted v In mark → scan v ds mark .found ≡ false
+      → Noted v (λ p. (In p) ⊎ (p ∈ ds)) (scan v ds mark .mark)
   unfolding scan
-  scan-darts [] mark h M = M
-  scan-darts (d ∷ ds) mark h M =
-      elim (tested (clashes mark d)) [
-        | inl e ↦ rw e M
-        | inr e ↦ rw e (scan-darts ds (upd (tip ts d) d mark) (λ x m. h x (List·Memᴰ·tail m)) (upd-darts mark (tip ts d) d (h d (List·Memᴰ·head refl)) M))
-      ]
-
-  -- ---- what a walk finds is a side twice
-
-  clash-row5 : (mark : ℕ → ℕ) (d : ℕ) → Darts mark → d < length ts → clashes mark d ≡ true → row5 ts ≡ true
-  unfolding row5 clashes
-  clash-row5 mark d M h e =
-      true-any (λ d. any (λ e. not (eqb d e) && same ts d e) (darts ts)) (in-darts ts d h)
-      (true-any (λ e. not (eqb d e) && same ts d e) (in-darts ts (mark (tip ts d)) (M (tip ts d))) e)
-
-  scan-row5 : (ds : List ℕ) (mark : ℕ → ℕ) → ((d : ℕ) → d ∈ ds → d < length ts) → Darts mark → scan ds mark .found ≡ true → row5 ts ≡ true
-  unfolding scan
-  scan-row5 [] mark h M e = clash e refl
-  scan-row5 (d ∷ ds) mark h M e =
-      elim (tested (clashes mark d)) [
-        | inl c ↦ clash-row5 mark d M (h d (List·Memᴰ·head refl)) c
-        | inr c ↦
-            scan-row5 ds (upd (tip ts d) d mark) (λ x m. h x (List·Memᴰ·tail m)) (upd-darts mark (tip ts d) d (h d (List·Memᴰ·head refl)) M) (rw c at e)
-      ]
-
-  -- ---- a walk that finds nothing leaves each dart at the vertex that it leads to
-
-  -- d does not clash: no dart that was walked before leads where d leads
-  scan-new : (v : ℕ) (ps : List ℕ) (mark : ℕ → ℕ) (d : ℕ) → org ts d ≡ v → ((p : ℕ) → p ∈ ps → org ts p ≡ v)
-      → ((p : ℕ) → p ∈ ps → mark (tip ts p) ≡ p) → (d ∈ ps → ⊥) → clashes mark d ≡ false → (p : ℕ) → p ∈ ps → tip ts p ≢ tip ts d
-  unfolding clashes same
-  scan-new v ps mark d o os ms new c p m q =
-      let at : mark (tip ts d) ≡ p = rw q at (ms p m) in
-      let differ : d ≢ p = λ e. new (rw e m) in
-      let t : (not (eqb d (mark (tip ts d))) && (eqb (org ts d) (org ts (mark (tip ts d))) && eqb (tip ts d) (tip ts (mark (tip ts d))))) ≡ true =
-      rw (at, ne-eqb d p differ, eq-eqb (org ts d) (org ts p) (o ∙ sym (os p m))) (eq-eqb (tip ts d) (tip ts p) (sym q)) in
-      clash t c
-
-  -- `ps` are the darts that were walked before
-  scan-marks : (v : ℕ) (ds ps : List ℕ) (mark : ℕ → ℕ) → Distinct ds → ((p : ℕ) → p ∈ ds → p ∈ ps → ⊥)
-      → ((d : ℕ) → d ∈ ds → org ts d ≡ v) → ((p : ℕ) → p ∈ ps → org ts p ≡ v) → ((p : ℕ) → p ∈ ps → mark (tip ts p) ≡ p)
-      → scan ds mark .found ≡ false → (p : ℕ) → (p ∈ ps) ⊎ (p ∈ ds) → scan ds mark .mark (tip ts p) ≡ p
-  unfolding scan
-  scan-marks v [] ps mark D new ods ops ms e p (inl m) = ms p m
-  scan-marks v [] ps mark D new ods ops ms e p (inr m) = absurd (List·Memᴰ·not-nil m)
-  scan-marks v (d ∷ ds) ps mark D new ods ops ms e p m =
-      elim (tested (clashes mark d)) [
+  scan-notes v [] In mark N e =
+      noted-as v In (λ p. (In p) ⊎ (p ∈ [])) mark (λ p m. inl m) (λ p m. ⊎-elim (λ k. k) (λ k. absurd (List·Memᴰ·not-nil k)) m) N
+  scan-notes v (d ∷ ds) In mark N e =
+      elim (tested (clashes v mark d)) [
         | inl c ↦ let f : true ≡ false = rw c at e in clash refl f
         | inr c ↦
-            let o = ods d (List·Memᴰ·head refl) in
-            let far = scan-new v ps mark d o ops ms (new d (List·Memᴰ·head refl)) c in
-            let ms′ : (p : ℕ) → p ∈ d ∷ ps → upd (tip ts d) d mark (tip ts p) ≡ p = λ p k.
-            ⊎-elim
-            (λ q. rw q (upd-same (tip ts d) d mark))
-            (λ k. upd-other (tip ts d) (tip ts p) d mark (far p k) ∙ ms p k)
-            (List·Memᴰ·cases-cons k) in
-            let new′ : (p : ℕ) → p ∈ ds → p ∈ d ∷ ps → ⊥ = λ p k l.
-            ⊎-elim (λ q. distinct-head D (Memᴰ·cast (sym q) k)) (λ l. new p (List·Memᴰ·tail k) l) (List·Memᴰ·cases-cons l) in
-            let ops′ : (p : ℕ) → p ∈ d ∷ ps → org ts p ≡ v = λ p k. ⊎-elim (λ q. rw q o) (λ k. ops p k) (List·Memᴰ·cases-cons k) in
-            let m′ : (p ∈ d ∷ ps) ⊎ (p ∈ ds) =
-            ⊎-elim (λ k. inl (List·Memᴰ·tail k)) (λ k. ⊎-elim (λ q. inl (List·Memᴰ·head q)) (λ k. inr k) (List·Memᴰ·cases-cons k)) m in
-            rw c (scan-marks v ds (d ∷ ps) (upd (tip ts d) d mark) (distinct-tail D) new′ (λ x k. ods x (List·Memᴰ·tail k)) ops′ ms′ (rw c at e) p m′)
+            let mark′ = upd (2 * tip ts d) (noted v d) mark in
+            let ih = scan-notes v ds (λ p. (In p) ⊎ (p ≡ d)) mark′ (noted-one v In mark d N c) (rw c at e) in
+            rw c (noted-as v (λ p. ((In p) ⊎ (p ≡ d)) ⊎ (p ∈ ds)) (λ p. (In p) ⊎ (p ∈ d ∷ ds)) (scan v ds mark′ .mark)
+            (λ p m. ⊎-elim (λ k. ⊎-elim (λ l. inl l) (λ q. inr (List·Memᴰ·head q)) k) (λ k. inr (List·Memᴰ·tail k)) m)
+            (λ p m. ⊎-elim (λ k. inl (inl k)) (λ k. ⊎-elim (λ q. inl (inr q)) (λ l. inr l) (List·Memᴰ·cases-cons k)) m)
+            ih)
       ]
 
-  -- a walk of all darts at v that finds nothing
-  pub scan-leaving : (v : ℕ) (mark : ℕ → ℕ) → scan (leaving ts v) mark .found ≡ false → (p : ℕ) → p ∈ leaving ts v
-      → scan (leaving ts v) mark .mark (tip ts p) ≡ p
-  scan-leaving v mark e p m =
-      scan-marks v (leaving ts v) [] mark (distinct-leaving ts v) (λ p k l. List·Memᴰ·not-nil l) (λ d k. leaving-in ts v k .1)
-      (λ p k. absurd (List·Memᴰ·not-nil k)) (λ p k. absurd (List·Memᴰ·not-nil k)) e p (inr m)
+  -- what it finds is a side twice
+  scan-finds : (v : ℕ) (ds : List ℕ) (In : ℕ → Type 0) (mark : ℕ → ℕ) → Distinct ds → ((p : ℕ) → In p → p ∈ ds → ⊥)
+      → ((p : ℕ) → In p → (p < length ts) × (org ts p ≡ v)) → ((p : ℕ) → p ∈ ds → (p < length ts) × (org ts p ≡ v))
+      → Noted v In mark → scan v ds mark .found ≡ true → row5 ts ≡ true
+  unfolding scan clashes row5 same
+  scan-finds v [] In mark D new old here N e = clash e refl
+  scan-finds v (d ∷ ds) In mark D new old here N e =
+      elim (tested (clashes v mark d)) [
+        | inl c ↦
+            let r = N .only (tip ts d) (is-of v (mark (2 * tip ts d)) c) in
+            let p = r .0 in
+            let differ : d ≢ p = λ q. new p (r .1) (List·Memᴰ·head (sym q)) in
+            let a = here d (List·Memᴰ·head refl) in
+            let b = old p (r .1) in
+            true-any (λ d. any (λ e. not (eqb d e) && same ts d e) (darts ts)) (in-darts ts d (a .0))
+            (true-any (λ e. not (eqb d e) && same ts d e) (in-darts ts p (b .0))
+            (rw (ne-eqb d p differ, eq-eqb (org ts d) (org ts p) (a .1 ∙ sym (b .1))) (eq-eqb (tip ts d) (tip ts p) (sym (r .2)))))
+        | inr c ↦
+            scan-finds v ds (λ p. (In p) ⊎ (p ≡ d)) (upd (2 * tip ts d) (noted v d) mark) (distinct-tail D)
+            (λ p m k. ⊎-elim (λ l. new p l (List·Memᴰ·tail k)) (λ q. distinct-head D (Memᴰ·cast (sym q) k)) m)
+            (λ p m. ⊎-elim (λ l. old p l) (λ q. rw q (here d (List·Memᴰ·head refl))) m)
+            (λ p m. here p (List·Memᴰ·tail m))
+            (noted-one v In mark d N c) (rw c at e)
+      ]
 
-  -- where no side is there twice, a walk finds nothing
-  pub once-scan : Once ts → (v : ℕ) (mark : ℕ → ℕ) → Darts mark → scan (leaving ts v) mark .found ≡ false
-  once-scan once v mark M =
-      untrue (scan (leaving ts v) mark .found) (λ e. clash (scan-row5 (leaving ts v) mark (λ d m. leaving-in ts v m .0) M e) (row5-means ts .1 once))
+  -- ---- all darts of a vertex
 
-  -- ---- all vertices
+  pub scan-row5 : (v : ℕ) (mark : ℕ → ℕ) → Before v mark → scan v (leaving ts v) mark .found ≡ true → row5 ts ≡ true
+  scan-row5 v mark B e =
+      scan-finds v (leaving ts v) (λ p. ⊥) mark (distinct-leaving ts v) (λ p m k. absurd m) (λ p m. absurd m) (λ p m. leaving-in ts v m)
+      (noted-none v mark B) e
 
-  module _ (t : Tables) (B : Bucketed ts t) where
-    scanAll-row5 : (k v : ℕ) (mark : ℕ → ℕ) → Darts mark → scanAll t k v mark .found ≡ true → row5 ts ≡ true
-    unfolding scanAll
-    scanAll-row5 zero v mark M e = clash e refl
-    scanAll-row5 (suc k) v mark M e =
-        let ds = chain (t .op) (t .count v) (t .head v) in
-        let below : (d : ℕ) → d ∈ ds → d < length ts = λ d m. leaving-in ts v (rw (B v) at m) .0 in
-        elim (tested (scan ds mark .found)) [
-          | inl c ↦ scan-row5 ds mark below M c
-          | inr c ↦ scanAll-row5 k (suc v) (scan ds mark .mark) (scan-darts ds mark below M) (rw c at e)
-        ]
+  pub scan-leaving : (v : ℕ) (mark : ℕ → ℕ) → Before v mark → scan v (leaving ts v) mark .found ≡ false
+      → Noted v (λ p. p ∈ leaving ts v) (scan v (leaving ts v) mark .mark)
+  scan-leaving v mark B e =
+      noted-as v (λ p. ⊥ ⊎ (p ∈ leaving ts v)) (λ p. p ∈ leaving ts v) (scan v (leaving ts v) mark .mark)
+      (λ p m. ⊎-elim (λ k. absurd k) (λ k. k) m) (λ p m. inr m)
+      (scan-notes v (leaving ts v) (λ p. ⊥) mark (noted-none v mark B) e)
 
-    scanAll-once : (k v : ℕ) (mark : ℕ → ℕ) → scanAll t k v mark .found ≡ false → (w : ℕ) → v ≤ w → w < v + k
-        → (d e : ℕ) → d ∈ leaving ts w → e ∈ leaving ts w → tip ts d ≡ tip ts e → d ≡ e
-    unfolding scanAll
-    scanAll-once zero v mark f w h l d e m n q = absurd (omega arith)
-    scanAll-once (suc k) v mark f w h l d e m n q =
-        let ds = chain (t .op) (t .count v) (t .head v) in
-        elim (tested (scan ds mark .found)) [
-          | inl c ↦ let g : true ≡ false = rw c at f in clash refl g
-          | inr c ↦
-              elim (ℕ-discrete v w) [
-                | yes s ↦
-                    let r : scan (leaving ts v) mark .found ≡ false = rw (B v) at c in
-                    let a = scan-leaving v mark r d (rw s m) in
-                    let b = scan-leaving v mark r e (rw s n) in
-                    sym a ∙ ap (scan (leaving ts v) mark .mark) q ∙ b
-                | no s ↦ scanAll-once k (suc v) (scan ds mark .mark) (rw c at f) w (omega arith) (omega arith) d e m n q
-              ]
-        ]
+  -- no two of them have one side
+  abbrev pub Apart : ℕ → Type 0
+  Apart v = (d e : ℕ) → d ∈ leaving ts v → e ∈ leaving ts v → tip ts d ≡ tip ts e → d ≡ e
 
-    -- the walks find a side twice just where row 5 does
-    pub scanAll-is : (n : ℕ) (mark : ℕ → ℕ) → Darts mark → ((d : ℕ) → org ts d < n) → scanAll t n 0 mark .found ≡ row5 ts
-    scanAll-is n mark M small =
-        elim (tested (scanAll t n 0 mark .found)) [
-          | inl e ↦ e ∙ sym (scanAll-row5 n 0 mark M e)
-          | inr e ↦
-              e ∙ sym (row5-means ts .1 (λ x y h l p q.
-              scanAll-once n 0 mark e (org ts x) (omega arith) (omega (arith, small x)) x y (in-leaving ts (org ts x) x h refl) (in-leaving ts (org ts x) y l (sym p)) q))
-        ]
+  pub noted-apart : length ts ≤ 65536 → (v : ℕ) (mark : ℕ → ℕ) → Noted v (λ p. p ∈ leaving ts v) mark → Apart v
+  noted-apart few v mark N d e m k q =
+      let z : noted v d ≡ noted v e = sym (N .each d m) ∙ ap (λ (w : ℕ). mark (2 * w)) q ∙ N .each e k in
+      let a = noted-dart v d (omega (arith, leaving-in ts v m .0)) in
+      let b = noted-dart v e (omega (arith, leaving-in ts v k .0)) in
+      sym a ∙ ap (λ (x : ℕ). x % 65536) z ∙ b
 
-    pub scanAll-darts : (k v : ℕ) (mark : ℕ → ℕ) → Darts mark → Darts (scanAll t k v mark .mark)
-    unfolding scanAll
-    scanAll-darts zero v mark M = M
-    scanAll-darts (suc k) v mark M =
-        let ds = chain (t .op) (t .count v) (t .head v) in
-        let M′ = scan-darts ds mark (λ d m. leaving-in ts v (rw (B v) at m) .0) M in
-        elim (tested (scan ds mark .found)) [
-          | inl c ↦ rw c M′
-          | inr c ↦ rw c (scanAll-darts k (suc v) (scan ds mark .mark) M′)
-        ]
+  pub apart-row5 : (n : ℕ) → ((d : ℕ) → org ts d < n) → ((v : ℕ) → v < n → Apart v) → row5 ts ≡ false
+  apart-row5 n small A =
+      row5-means ts .1 (λ x y h l p q. A (org ts x) (small x) x y (in-leaving ts (org ts x) x h refl) (in-leaving ts (org ts x) y l (sym p)) q)
+
+  -- ---- the vertices from v on
+
+  -- the lists of these vertices are whole
+  abbrev pub ListedFrom : ℕ → (ℕ → ℕ) → Tables → Type 0
+  ListedFrom v op t = (w : ℕ) → v ≤ w → chain op (t .count w) (t .head w) ≡ leaving ts w
+
+  pub scanAll-row5 : (t : Tables) (k v : ℕ) (mark : ℕ → ℕ) → ListedFrom v (t .op) t → Before v mark → scanAll t k v mark .found ≡ true → row5 ts ≡ true
+  unfolding scanAll
+  scanAll-row5 t zero v mark B M e = clash e refl
+  scanAll-row5 t (suc k) v mark B M e =
+      let ds = chain (t .op) (t .count v) (t .head v) in
+      let here = B v (omega arith) in
+      elim (tested (scan v ds mark .found)) [
+        | inl c ↦ scan-row5 v mark M (rw here at c)
+        | inr c ↦
+            let N = scan-leaving v mark M (rw here at c) in
+            scanAll-row5 t k (suc v) (scan v ds mark .mark) (λ w h. B w (omega arith)) (rw here (N .low)) (rw c at e)
+      ]
+
+  pub scanAll-apart : length ts ≤ 65536 → (t : Tables) (k v : ℕ) (mark : ℕ → ℕ) → ListedFrom v (t .op) t → Before v mark → scanAll t k v mark .found ≡ false
+      → (w : ℕ) → v ≤ w → w < v + k → Apart w
+  unfolding scanAll
+  scanAll-apart few t zero v mark B M f w h l = absurd (omega arith)
+  scanAll-apart few t (suc k) v mark B M f w h l =
+      let ds = chain (t .op) (t .count v) (t .head v) in
+      let here = B v (omega arith) in
+      elim (tested (scan v ds mark .found)) [
+        | inl c ↦ let g : true ≡ false = rw c at f in clash refl g
+        | inr c ↦
+            let N = scan-leaving v mark M (rw here at c) in
+            elim (ℕ-discrete v w) [
+              | yes s ↦ rw s at (noted-apart few v (scan v (leaving ts v) mark .mark) N)
+              | no s ↦
+                  scanAll-apart few t k (suc v) (scan v ds mark .mark) (λ w h. B w (omega arith)) (rw here (N .low)) (rw c at f) w (omega arith) (omega arith)
+            ]
+      ]

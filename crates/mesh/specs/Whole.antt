@@ -1,5 +1,5 @@
 -- The steps of the mesh check put together: what scratch holds after each, and which row it has found. Assumes nothing.
-use Prim.Native.Nat.{ℕ, _*_, _/_, _≤_, _<_}
+use Prim.Native.Nat.{ℕ, _*_, _/_, _%_, _≤_, _<_, _^_}
 use mathlib.Core.Path.{_≡_, sym, ap, _∙_}
 use mathlib.Core.Bool.{Bool, true, false}
 use mathlib.Core.List.{List, map}
@@ -11,19 +11,19 @@ use lib.IntN.{ℤ, pos}
 use Rattle.definitions.specs.Mesh.{trianglesLength, org, opp, row3, row4, row5, row6, row7, row8}
 use Rattle.definitions.specs.Answers.{ask}
 use Rattle.definitions.specs.Refusals.{mostVertices, meshRows, Accepted as AcceptedMesh}
-use Rattle.sphere.specs.Rows.{row3-means, row5-means}
+use Rattle.sphere.specs.Rows.{row3-means}
 use Rattle.sphere.specs.Sides.{Sides, sides}
 use Rattle.sphere.specs.Sphere.{Sphere}
 use Rattle.sphere.specs.Accept.{range-row1, accepted-sphere}
-use Rattle.sphere.specs.Asking.{clean-ask, mesh-7, mesh-8}
-use Rattle.tables.specs.Tables.{Tables, view, blank, view-blank, withOp, withMark, mark-in}
-use Rattle.checkwork.specs.Buckets.{fill, fill-buckets, fill-mark, Bucketed, blank-counts, Rooted, bucketed-rooted}
-use Rattle.checkwork.specs.Twice.{scanAll, Darts, scanAll-is, scanAll-darts}
-use Rattle.checkwork.specs.Join.{joinAll-is, joinAll-opp}
+use Rattle.sphere.specs.Asking.{clean-ask, mesh-5, mesh-6, mesh-7, mesh-8}
+use Rattle.tables.specs.Tables.{Tables, view, blank, view-blank, withOp, withMark}
+use Rattle.checkwork.specs.Buckets.{fill, fill-buckets, fill-heads, fill-mark, Bucketed, Headed, blank-counts, blank-heads, Rooted, bucketed-rooted}
+use Rattle.checkwork.specs.Twice.{Before}
+use Rattle.checkwork.specs.Join.{Told, twice, lacking, paired, joinAll-told}
 use Rattle.checkwork.specs.Around.{brokenAll, brokenAll-is}
 use Rattle.checkwork.specs.Reach.{explore-is}
-use Rattle.sides.specs.Room.{Room, room, Filling}
-use Rattle.sides.specs.Turns.{Scanned, AllMatched, joinedAll}
+use Rattle.sides.specs.Room.{Room, room, Ready, Filling}
+use Rattle.sides.specs.Turns.{AllMatched, joinedAll}
 use Rattle.pieces.specs.Turns.{Marks, Split}
 use Rattle.mesh.specs.declared.MeshAnswer.{MeshAnswer}
 use Rattle.mesh.specs.declared.MeshAnswer.the-variants.{Accepted, Refused}
@@ -89,76 +89,87 @@ can-fill n ts s s₁ L e l b =
     record {
       space = rw l (has-room n ts (length s) L e);
       count = rw v (blank-counts ts);
+      heads = rw v (blank-heads ts);
       few = omega (arith, L .triangles, L .most);
     }
+
+-- whole triangles, and few
+pub can-test : (n : ℕ) (ts : List ℕ) (words : ℕ) → Lent n ts words → (length ts % 3 ≡ 0) × (length ts < 2 ^ 62)
+can-test n ts words L = omega (arith, whole n ts L .0, L .triangles, L .most)
 
 pub has-marks : (n : ℕ) (ts : List ℕ) (words : ℕ) → Lent n ts words → Marks (length ts / 3) words × (0 < length ts / 3)
 has-marks n ts words L =
     let w = whole n ts L in
-    (record { at = λ t h. omega (arith, L .room, mark-in n t (omega (arith, w .1))); few = omega (arith, L .most, w .1) }, w .2)
+    (record { at = λ t h. omega (arith, L .room, w .1); few = omega (arith, L .most, w .1) }, w .2)
 
 -- ---- rows 5 and 6
 
--- the lists are there
+-- the lists are there, and no mark yet
 record Listed (ts : List ℕ) (t : Tables) : Type 0 where
   buckets : Bucketed ts t
-  marks : Darts ts (t .mark)
+  heads : Headed ts t
+  marks : Before 0 (t .mark)
 
-listed : (n : ℕ) (ts : List ℕ) (words : ℕ) (s s₁ s₂ : List ℤ) → Lent n ts words → s₁ ≡ map (λ _. pos 0) s → view s₂ ≡ fill ts (length ts) (view s₁)
-    → Listed ts (view s₂)
-unfolding blank
-listed n ts words s s₁ s₂ L b f =
-    let v : view s₂ ≡ fill ts (length ts) blank = f ∙ ap (λ (t : Tables). fill ts (length ts) t) (ap view b ∙ view-blank s) in
-    let w = whole n ts L in
-    rw v record {
-      buckets = fill-buckets ts;
-      marks = λ x. rw (ap (λ (g : ℕ → ℕ). g x) (fill-mark ts (length ts) blank)) (omega arith);
-    }
-
-listed-mark : (ts : List ℕ) (t : Tables) (m : ℕ → ℕ) → Darts ts m → Listed ts t → Listed ts (withMark m t)
-unfolding withMark
-listed-mark ts t m D l = record { buckets = l .buckets; marks = D }
-
--- the walks that mark tell row 5, and leave the lists
-module _ (n : ℕ) (ts : List ℕ) (words : ℕ) (L : Lent n ts words) (none3 : row3 ts n ≡ false) (s s₁ s₂ s₃ : List ℤ) (b : s₁ ≡ map (λ _. pos 0) s)
+module _ (n : ℕ) (ts : List ℕ) (words : ℕ) (L : Lent n ts words) (none3 : row3 ts n ≡ false) (s s₁ s₂ : List ℤ) (b : s₁ ≡ map (λ _. pos 0) s)
     (f : view s₂ ≡ fill ts (length ts) (view s₁)) where
-  filled : Listed ts (view s₂)
-  filled = listed n ts words s s₁ s₂ L b f
+  listed : Listed ts (view s₂)
+  unfolding blank
+  listed =
+      let v : view s₂ ≡ fill ts (length ts) blank = f ∙ ap (λ (t : Tables). fill ts (length ts) t) (ap view b ∙ view-blank s) in
+      rw v record {
+        buckets = fill-buckets ts;
+        heads = fill-heads ts (length ts) blank (omega arith) (blank-heads ts);
+        marks = λ x. rw (ap (λ (g : ℕ → ℕ). g x) (fill-mark ts (length ts) blank)) (omega arith);
+      }
 
-  pub found5 : (r : Bool) → Scanned ts n s₂ s₃ r → r ≡ row5 ts
-  found5 r S = S .found ∙ scanAll-is ts (view s₂) (filled .buckets) n (view s₂ .mark) (filled .marks) (small n ts (L .least) none3)
+  pub can-match : length s₂ ≡ words → Ready ts s₂ n
+  can-match l = record {
+    space = rw l (has-room n ts words L none3);
+    small = omega (arith, L .most);
+    heads = λ v. omega (arith, listed .heads v, L .triangles, L .most);
+  }
 
-  scanned : (r : Bool) → Scanned ts n s₂ s₃ r → Listed ts (view s₃)
-  scanned r S =
-      let D = scanAll-darts ts (view s₂) (filled .buckets) n 0 (view s₂ .mark) (filled .marks) in
-      rw (S .same) (listed-mark ts (view s₂) (scanAll ts (view s₂) n 0 (view s₂ .mark) .mark) D filled)
+  told : Told ts (joinedAll ts n (view s₂))
+  told =
+      joinAll-told ts (length ts / 3) (whole n ts L .0) (omega (arith, L .triangles, L .most)) n (small n ts (L .least) none3) (view s₂) (listed .buckets) (view s₂ .mark) (listed .marks)
 
-  -- those that look for opposites tell row 6, and where none is lacking leave them
-  module _ (none4 : row4 ts ≡ false) (none5 : row5 ts ≡ false) (q : Bool) (S : Scanned ts n s₂ s₃ q) (s₄ : List ℤ) where
-    pub found6 : (r : Bool) → AllMatched ts n s₃ s₄ r → r ≡ row6 ts
-    found6 r M =
-        let l = scanned q S in
-        M .lacks
-        ∙ joinAll-is ts (length ts / 3) (whole n ts L .0) (row5-means ts .0 none5) (view s₃) (l .buckets) (view s₃ .mark) (l .marks) n (small n ts (L .least) none3)
+  -- what the number says of rows 5 and 6; where they find nothing the opposites are there
+  module _ (none4 : row4 ts ≡ false) (s₃ : List ℤ) (r : ℕ) (M : AllMatched ts n s₂ s₃ r) where
+    pub refuse5 : r ≡ 5 → ask (meshRows n ts) ≡ some 5
+    refuse5 e = go told
+      where
+        go : Told ts (joinedAll ts n (view s₂)) → ask (meshRows n ts) ≡ some 5
+        go (twice q f5) = mesh-5 n ts none3 none4 f5
+        go (lacking q n5 f6) = absurd (omega (arith, M .row))
+        go (paired q n5 n6 o) = absurd (omega (arith, M .row))
 
-    pub paired : AllMatched ts n s₃ s₄ false → Paired n ts (view s₄)
+    pub refuse6 : r ≡ 6 → ask (meshRows n ts) ≡ some 6
+    refuse6 e = go told
+      where
+        go : Told ts (joinedAll ts n (view s₂)) → ask (meshRows n ts) ≡ some 6
+        go (twice q f5) = absurd (omega (arith, M .row))
+        go (lacking q n5 f6) = mesh-6 n ts none3 none4 n5 f6
+        go (paired q n5 n6 o) = absurd (omega (arith, M .row))
+
+    pub pairs : (r ≡ 5 → ⊥) → (r ≡ 6 → ⊥) → Paired n ts (view s₃)
     unfolding withOp withMark
-    paired M =
-        let l = scanned q S in
-        let once = row5-means ts .0 none5 in
-        let j = joinedAll ts n (view s₃) in
-        let O = joinAll-opp ts (length ts / 3) (whole n ts L .0) once (view s₃) (l .buckets) (view s₃ .mark) (l .marks) n (small n ts (L .least) none3) (sym (M .lacks)) in
-        let R = bucketed-rooted ts (view s₃) (l .buckets) in
-        record {
-          none3 = none3;
-          none4 = none4;
-          none5 = none5;
-          none6 = sym (found6 false M);
-          tables = rw (M .same) record {
-            opposites = O;
-            rooted = record { number = R .number; dart = R .dart };
-          };
-        }
+    pairs n5 n6 = go told
+      where
+        go : Told ts (joinedAll ts n (view s₂)) → Paired n ts (view s₃)
+        go (twice q f5) = absurd (n5 (M .row ∙ q))
+        go (lacking q g5 f6) = absurd (n6 (M .row ∙ q))
+        go (paired q g5 g6 o) =
+            let R = bucketed-rooted ts (view s₂) (listed .buckets) in
+            record {
+              none3 = none3;
+              none4 = none4;
+              none5 = g5;
+              none6 = g6;
+              tables = rw (M .same (M .row ∙ q)) record {
+                opposites = o;
+                rooted = record { number = R .number; dart = R .dart };
+              };
+            }
 
 -- ---- rows 7 and 8
 

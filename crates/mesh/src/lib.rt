@@ -7,7 +7,6 @@ use sides::doubled_vertex;
 use sides::fill_lists;
 use sides::high_vertex;
 use sides::match_sides;
-use sides::side_twice;
 use tables::clear;
 ghost use mathlib.Core.Path.{_≡_};
 ghost use lib.ListN.{length};
@@ -31,17 +30,16 @@ fn pair_sides(n: usize, triangles: &[u16], s: &mut [i64]) -> MeshAnswer
     if high_vertex(n, triangles) {
         return MeshAnswer::Refused(3);
     }
-    clear(s);
-    fill_lists(triangles, s);
-    let doubled = doubled_vertex(triangles);
-    let again = side_twice(n, triangles, s);
-    if doubled {
+    if doubled_vertex(triangles) {
         return MeshAnswer::Refused(4);
     }
-    if again {
+    clear(s);
+    fill_lists(triangles, s);
+    let row = match_sides(n, triangles, s);
+    if row == 5 {
         return MeshAnswer::Refused(5);
     }
-    if match_sides(n, triangles, s) {
+    if row == 6 {
         return MeshAnswer::Refused(6);
     }
     MeshAnswer::Accepted(triangles.len())

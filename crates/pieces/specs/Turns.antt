@@ -12,12 +12,12 @@ use borrow.Author.Tests.{lt-ltb, le-ltb, ltb-true, eq-eqb, ne-eqb}
 use Rattle.laws.specs.Lists.{and-both}
 use Rattle.definitions.specs.Words.{any, upto}
 use Rattle.definitions.specs.Mesh.{tri}
-use Rattle.tables.specs.Tables.{Tables, view, upd, upd-at, upd-other, markAt, setMark, withMark}
+use Rattle.tables.specs.Tables.{Tables, view, upd, upd-at, upd-other, markIn, setMark, withMark}
 use Rattle.checkwork.specs.Reach.{Front, fresh, visit, popped, leave, explore, begin}
 
 -- room for the marks of m triangles
 pub record Marks (m words : ℕ) : Type 0 where
-  pub at : (t : ℕ) → t < m → markAt t < words
+  pub at : (t : ℕ) → t < m → markIn words t
   pub few : m < 2 ^ 60
 
 -- ---- zeros

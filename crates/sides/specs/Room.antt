@@ -11,35 +11,58 @@ use Rattle.definitions.specs.Words.{any, upto}
 use Rattle.definitions.specs.Mesh.{prev, org, row3}
 use Rattle.laws.specs.Lists.{any-true, true-any, false-any, any-false, getD-in, in-getD, in-upto, upto-in}
 use Rattle.sphere.specs.Darts.{prev-below}
-use Rattle.tables.specs.Tables.{dartAt, headAt, countAt, markAt, dart-in, head-in, count-in, mark-in, view, setOp, setHead, setCount}
-use Rattle.checkwork.specs.Buckets.{Counted, push}
+use Rattle.tables.specs.Tables.{dartIn, vertexIn, markIn, view, setOp, setHead, setCount}
+use Rattle.checkwork.specs.Buckets.{Counted, Headed, push}
 
 -- `words` is the length of scratch
 pub record Room (ts : List ℕ) (words : ℕ) : Type 0 where
-  pub mark : (d : ℕ) → markAt (org ts d) < words
-  pub head : (d : ℕ) → headAt (org ts d) < words
-  pub count : (d : ℕ) → countAt (org ts d) < words
-  pub link : (d : ℕ) → d < length ts → dartAt (prev d) < words
+  pub mark : (d : ℕ) → markIn words (2 * org ts d)
+  pub vertex : (d : ℕ) → vertexIn words (org ts d)
+  pub dart : (d : ℕ) → d < length ts → dartIn words d
+  pub link : (d : ℕ) → d < length ts → dartIn words (prev d)
 
 -- ten words for each vertex are enough
 pub room : (n T words : ℕ) (ts : List ℕ) → ((d : ℕ) → org ts d < n) → length ts ≡ 3 * T → T ≤ 2 * n → 10 * n ≤ words → Room ts words
 room n T words ts small whole h l = record {
-  mark = λ d. omega (arith, mark-in n (org ts d) (omega (arith, small d)));
-  head = λ d. omega (arith, head-in n (org ts d) (small d));
-  count = λ d. omega (arith, count-in n (org ts d) (small d));
-  link = λ d k. omega (arith, dart-in n (prev d) (omega (arith, prev-below T d (omega arith))));
+  mark = λ d. omega (arith, small d);
+  vertex = λ d. omega (arith, small d);
+  dart = λ d k. omega arith;
+  link = λ d k. omega (arith, prev-below T d (omega arith));
 }
+
+-- room for the mark of a dart of v, and for the opposites of the darts that arrive there
+pub record AtVertex (ts : List ℕ) (words v : ℕ) : Type 0 where
+  pub space : Room ts words
+  pub small : v < 2 ^ 32
+
+-- room for those of n vertices, whose first darts are darts
+pub record Ready (ts : List ℕ) (s : List ℤ) (n : ℕ) : Type 0 where
+  pub space : Room ts (length s)
+  pub small : n < 2 ^ 32
+  pub heads : (v : ℕ) → view s .head v < 2 ^ 62
+
+pub ready-at : {ts : List ℕ} {s : List ℤ} {n : ℕ} (s′ : List ℤ) (v : ℕ) → Ready ts s n → v < n → length s′ ≡ length s → AtVertex ts (length s′) v
+ready-at s′ v R h l = record { space = rw l (R .space); small = omega (arith, R .small) }
+
+pub ready-kept : {ts : List ℕ} {s : List ℤ} {n : ℕ} (s′ : List ℤ) → Ready ts s n → length s′ ≡ length s → view s′ .head ≡ view s .head → Ready ts s′ n
+ready-kept s′ R l e = record { space = rw l (R .space); small = R .small; heads = λ v. rw e (R .heads v) }
+
+pub prev-small : (h e : ℕ) → e ≡ prev h → h < 2 ^ 62 → e < 2 ^ 63
+unfolding prev
+prev-small h e q l = omega arith
 
 -- room to put dart d in front of its origin's list
 pub record Pushing (ts : List ℕ) (s : List ℤ) (d : ℕ) : Type 0 where
   pub space : Room ts (length s)
   pub dart : d < length ts
   pub count : Counted ts (suc d) (view s)
+  pub heads : Headed ts (view s)
   pub few : length ts < 2 ^ 62
 
 pub record Filling (ts : List ℕ) (s : List ℤ) : Type 0 where
   pub space : Room ts (length s)
   pub count : Counted ts (length ts) (view s)
+  pub heads : Headed ts (view s)
   pub few : length ts < 2 ^ 62
 
 -- row 3, dart by dart
@@ -57,7 +80,7 @@ row3-darts n ts =
         false-any (λ d. leb n (getD ts d 0)) (upto (length ts)) (λ d m. any-false (leb n) ts e (getD-in ts d 0 (upto-in (length ts) m))) ∙ sym e
 
 -- the three stores that put a dart in front
-pub pushed : (ts : List ℕ) (d : ℕ) (s s₁ s₂ s₃ : List ℤ) (v e h k : ℕ) → v ≡ org ts d → e ≡ prev d → h ≡ view s .head v → k ≡ view s .count v
-    → view s₁ ≡ setOp e h (view s) → view s₂ ≡ setHead v d (view s₁) → view s₃ ≡ setCount v (k + 1) (view s₂) → view s₃ ≡ push ts d (view s)
+pub pushed : (ts : List ℕ) (d : ℕ) (s s₁ s₂ s₃ : List ℤ) (v e h g k : ℕ) → v ≡ org ts d → e ≡ prev d → h ≡ view s .head v → g ≡ prev h → k ≡ view s .count v
+    → view s₁ ≡ setOp e g (view s) → view s₂ ≡ setHead v d (view s₁) → view s₃ ≡ setCount v (k + 1) (view s₂) → view s₃ ≡ push ts d (view s)
 unfolding push
-pushed ts d s s₁ s₂ s₃ v e h k a b p q x y z = rw (z, y, x, p, q, b, a)
+pushed ts d s s₁ s₂ s₃ v e h g k a b p r q x y z = rw (z, y, x, r, p, q, b, a)

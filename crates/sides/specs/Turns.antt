@@ -1,15 +1,18 @@
 -- What is known at each turn of the loops of rows 5 and 6: what is left to do from here gives what the whole gives. Assumes nothing.
-use Prim.Native.Nat.{ℕ, suc, _+_, _-_, _≤_, _<_, _^_}
+use Prim.Native.Nat.{ℕ, suc, _+_, _-_, _*_, _/_, _%_, _≤_, _<_, _^_}
 use mathlib.Core.Path.{_≡_, refl, sym, ap, _∙_}
-use mathlib.Core.Bool.{Bool, true, false}
+use mathlib.Core.Bool.{Bool, true, false, cond, _&&_}
 use mathlib.Core.List.{List, _∷_}
 use native.Mathlib.Omega.{arith}
+use lib.Dec.{ltb}
 use lib.ListN.{length}
+use borrow.Author.Tests.{lt-ltb, le-ltb, eq-eqb, ne-eqb}
 use lib.IntN.{ℤ}
-use Rattle.definitions.specs.Mesh.{prev, tip}
+use Rattle.definitions.specs.Mesh.{next, prev, org, tip}
+use Rattle.sphere.specs.Darts.{next-prev, prev-next}
 use Rattle.tables.specs.Tables.{Tables, view, upd, setOp, setMark, withOp, withMark}
-use Rattle.checkwork.specs.Buckets.{chain, push, fill, Counted, push-counts}
-use Rattle.checkwork.specs.Twice.{Scan, clashes, scan, scanAll, scan-clash, scan-on}
+use Rattle.checkwork.specs.Buckets.{chain, push, fill, Counted, push-counts, Headed, push-heads}
+use Rattle.checkwork.specs.Twice.{Scan, noted, isOf, clashes, scan, scanAll, scan-clash, scan-on}
 use Rattle.checkwork.specs.Join.{Join, Round, facing, meets, join, joinAll}
 
 -- ---- lists are filled from the last dart down to d
@@ -18,6 +21,7 @@ pub record Filled (ts : List ℕ) (s₀ s : List ℤ) (d : ℕ) : Type 0 where
   pub long : length s ≡ length s₀
   pub low : d ≤ length ts
   pub count : Counted ts d (view s)
+  pub heads : Headed ts (view s)
   pub rest : fill ts d (view s) ≡ fill ts (length ts) (view s₀)
 
 pub filled-next : (ts : List ℕ) (s₀ s s′ : List ℤ) (d : ℕ) → 0 < d → length s′ ≡ length s → view s′ ≡ push ts (d - 1) (view s)
@@ -29,6 +33,7 @@ filled-next ts s₀ s s′ d h l e I =
       long = l ∙ I .long;
       low = omega (arith, I .low);
       count = rw e (push-counts ts (d - 1) (view s) (rw z at (I .count)));
+      heads = rw e (push-heads ts (d - 1) (view s) (omega (arith, I .low)) (I .heads));
       rest = rw e (rw z at (I .rest));
     }
 
@@ -42,90 +47,133 @@ pub only-op : (t t₀ : Tables) (f : ℕ → ℕ) → t ≡ withOp f t₀ → t 
 unfolding withOp
 only-op t t₀ f e = e ∙ ap (λ (g : ℕ → ℕ). withOp g t₀) (sym (ap (λ (t : Tables). t .op) e))
 
+-- heads stay
+pub mark-heads : (s₀ s : List ℤ) (f : ℕ → ℕ) → view s ≡ withMark f (view s₀) → view s .head ≡ view s₀ .head
+unfolding withMark
+mark-heads s₀ s f e = ap (λ (t : Tables). t .head) e
+
+pub op-heads : (s₀ s : List ℤ) (f : ℕ → ℕ) → view s ≡ withOp f (view s₀) → view s .head ≡ view s₀ .head
+unfolding withOp
+op-heads s₀ s f e = ap (λ (t : Tables). t .head) e
+
+pub both-heads : (s₀ s : List ℤ) (f g : ℕ → ℕ) → view s ≡ withOp f (withMark g (view s₀)) → view s .head ≡ view s₀ .head
+unfolding withOp withMark
+both-heads s₀ s f g e = ap (λ (t : Tables). t .head) e
+
 -- ---- the darts that leave a vertex leave their marks
 
--- k darts from h on are walked; i of them are done, and d is the next
-pub record Marking (ts : List ℕ) (s₀ : List ℤ) (k h : ℕ) (s : List ℤ) (d i : ℕ) : Type 0 where
+-- The dart after e leads where the dart before e comes from.
+pub tip-next : (ts : List ℕ) (e : ℕ) → org ts (prev e) ≡ tip ts (next e)
+unfolding tip next prev
+tip-next ts e = let z : 3 * (e / 3) + (e % 3 + 2) % 3 ≡ 3 * ((3 * (e / 3) + (e % 3 + 1) % 3) / 3) + ((3 * (e / 3) + (e % 3 + 1) % 3) % 3 + 1) % 3 = omega arith in ap (org ts) z
+
+-- dart d of vertex v leaves its mark, unless there is a mark of v where it leads
+pub record Left (ts : List ℕ) (s s′ : List ℤ) (v d : ℕ) (r : Bool) : Type 0 where
+  pub found : r ≡ clashes ts v (view s .mark) d
+  pub same : view s′ ≡ cond r (view s) (setMark (2 * tip ts d) (noted v d) (view s))
+
+module _ (ts : List ℕ) (s : List ℤ) (v e w m : ℕ) (at : w ≡ org ts (prev e)) (is : m ≡ view s .mark (2 * w)) where
+  mark-there : m ≡ view s .mark (2 * tip ts (next e))
+  mark-there = is ∙ ap (λ (x : ℕ). view s .mark (2 * x)) (at ∙ tip-next ts e)
+
+  pub left-clash : m / 65536 ≡ v + 1 → Left ts s s v (next e) true
+  unfolding clashes isOf
+  left-clash h = record { found = sym (eq-eqb (view s .mark (2 * tip ts (next e)) / 65536) (v + 1) (ap (λ (x : ℕ). x / 65536) (sym mark-there) ∙ h)); same = refl }
+
+  pub left-on : (s′ : List ℤ) (d : ℕ) → (m / 65536 ≡ v + 1 → ⊥) → d ≡ next e → view s′ ≡ setMark (2 * w) (65536 * (v + 1) + d % 65536) (view s)
+      → Left ts s s′ v (next e) false
+  unfolding clashes isOf noted
+  left-on s′ d h q x = record {
+    found = sym (ne-eqb (view s .mark (2 * tip ts (next e)) / 65536) (v + 1) (λ z. h (ap (λ (y : ℕ). y / 65536) mark-there ∙ z)));
+    same = x ∙ rw (at, tip-next ts e, q);
+  }
+
+-- k darts of v from h on are walked; i of them are done, and the dart after e is the next
+pub record Marking (ts : List ℕ) (s₀ : List ℤ) (v k h : ℕ) (s : List ℤ) (e i : ℕ) : Type 0 where
   pub long : length s ≡ length s₀
-  pub small : d < 2 ^ 63
+  pub small : e < 2 ^ 63
   pub same : view s ≡ withMark (view s .mark) (view s₀)
-  pub rest : scan ts (chain (view s₀ .op) (k - i) d) (view s .mark) ≡ scan ts (chain (view s₀ .op) k h) (view s₀ .mark)
+  pub rest : scan ts v (chain (view s₀ .op) (k - i) (next e)) (view s .mark) ≡ scan ts v (chain (view s₀ .op) k h) (view s₀ .mark)
 
-pub marking-start : (ts : List ℕ) (s : List ℤ) (k h : ℕ) → h < 2 ^ 63 → Marking ts s k h s h 0
+pub marking-start : (ts : List ℕ) (s : List ℤ) (v k h e : ℕ) → e ≡ prev h → e < 2 ^ 63 → Marking ts s v k h s e 0
 unfolding withMark
-marking-start ts s k h l =
+marking-start ts s v k h e q l =
     let z : k - 0 ≡ k = omega arith in
-    record { long = refl; small = l; same = refl; rest = ap (λ (j : ℕ). scan ts (chain (view s .op) j h) (view s .mark)) z }
+    let y : next e ≡ h = ap next q ∙ next-prev h in
+    record { long = refl; small = l; same = refl; rest = rw (z, y) }
 
-left : (op : ℕ → ℕ) (k i d : ℕ) → i < k → chain op (k - i) d ≡ d ∷ chain op (k - (i + 1)) (op (prev d))
+left : (op : ℕ → ℕ) (k i e : ℕ) → i < k → chain op (k - i) (next e) ≡ next e ∷ chain op (k - (i + 1)) (next (op e))
 unfolding chain
-left op k i d h = let z : k - i ≡ suc (k - (i + 1)) = omega arith in rw z
+left op k i e h = let z : k - i ≡ suc (k - (i + 1)) = omega arith in rw (z, prev-next e)
 
-pub marking-found : (ts : List ℕ) (s₀ : List ℤ) (k h : ℕ) (s : List ℤ) (d i : ℕ) → i < k → clashes ts (view s .mark) d ≡ true → Marking ts s₀ k h s d i
-    → record { found = true; mark = view s .mark } ≡ scan ts (chain (view s₀ .op) k h) (view s₀ .mark)
-marking-found ts s₀ k h s d i l c I =
-    sym (scan-clash ts d (chain (view s₀ .op) (k - (i + 1)) (view s₀ .op (prev d))) (view s .mark) c)
-    ∙ ap (λ (ds : List ℕ). scan ts ds (view s .mark)) (sym (left (view s₀ .op) k i d l)) ∙ I .rest
+marking-found : (ts : List ℕ) (s₀ : List ℤ) (v k h : ℕ) (s : List ℤ) (e i : ℕ) → i < k → clashes ts v (view s .mark) (next e) ≡ true → Marking ts s₀ v k h s e i
+    → record { found = true; mark = view s .mark } ≡ scan ts v (chain (view s₀ .op) k h) (view s₀ .mark)
+marking-found ts s₀ v k h s e i l c I =
+    sym (scan-clash ts v (next e) (chain (view s₀ .op) (k - (i + 1)) (next (view s₀ .op e))) (view s .mark) c)
+    ∙ ap (λ (ds : List ℕ). scan ts v ds (view s .mark)) (sym (left (view s₀ .op) k i e l)) ∙ I .rest
 
-pub marking-next : (ts : List ℕ) (s₀ : List ℤ) (k h : ℕ) (s s′ : List ℤ) (d d′ i : ℕ) → i < k → clashes ts (view s .mark) d ≡ false
-    → length s′ ≡ length s → view s′ ≡ setMark (tip ts d) d (view s) → d′ ≡ view s′ .op (prev d) → d′ < 2 ^ 63
-    → Marking ts s₀ k h s d i → Marking ts s₀ k h s′ d′ (i + 1)
+pub marking-next : (ts : List ℕ) (s₀ : List ℤ) (v k h : ℕ) (s s′ : List ℤ) (e e′ i : ℕ) (r : Bool) → i < k → r ≡ false → length s′ ≡ length s
+    → Left ts s s′ v (next e) r → e′ ≡ view s′ .op e → e′ < 2 ^ 63 → Marking ts s₀ v k h s e i → Marking ts s₀ v k h s′ e′ (i + 1)
 unfolding setMark withMark
-marking-next ts s₀ k h s s′ d d′ i l c m e q b I =
-    let o : view s′ .op ≡ view s₀ .op = ap (λ (t : Tables). t .op) e ∙ ap (λ (t : Tables). t .op) (I .same) in
-    let r : d′ ≡ view s₀ .op (prev d) = q ∙ ap (λ (f : ℕ → ℕ). f (prev d)) o in
-    let a : view s′ .mark ≡ upd (tip ts d) d (view s .mark) = ap (λ (t : Tables). t .mark) e in
+marking-next ts s₀ v k h s s′ e e′ i r l f m L q b I =
+    let c : clashes ts v (view s .mark) (next e) ≡ false = sym (L .found) ∙ f in
+    let x : view s′ ≡ setMark (2 * tip ts (next e)) (noted v (next e)) (view s) = rw f at (L .same) in
+    let o : view s′ .op ≡ view s₀ .op = ap (λ (t : Tables). t .op) x ∙ ap (λ (t : Tables). t .op) (I .same) in
+    let y : e′ ≡ view s₀ .op e = q ∙ ap (λ (f : ℕ → ℕ). f e) o in
+    let to = upd (2 * tip ts (next e)) (noted v (next e)) (view s .mark) in
+    let a : view s′ .mark ≡ to = ap (λ (t : Tables). t .mark) x in
     record {
       long = m ∙ I .long;
       small = b;
-      same = only-mark (view s′) (view s₀) (upd (tip ts d) d (view s .mark)) (e ∙ ap (withMark (upd (tip ts d) d (view s .mark))) (I .same));
+      same = only-mark (view s′) (view s₀) to (x ∙ ap (withMark to) (I .same));
       rest =
-          rw (a, r)
-          (sym (scan-on ts d (chain (view s₀ .op) (k - (i + 1)) (view s₀ .op (prev d))) (view s .mark) c)
-          ∙ ap (λ (ds : List ℕ). scan ts ds (view s .mark)) (sym (left (view s₀ .op) k i d l)) ∙ I .rest);
+          rw (a, y)
+          (sym (scan-on ts v (next e) (chain (view s₀ .op) (k - (i + 1)) (next (view s₀ .op e))) (view s .mark) c)
+          ∙ ap (λ (ds : List ℕ). scan ts v ds (view s .mark)) (sym (left (view s₀ .op) k i e l)) ∙ I .rest);
     }
 
 -- what the whole walk gives
 pub record Marked (ts : List ℕ) (s s′ : List ℤ) (v : ℕ) (r : Bool) : Type 0 where
-  pub found : r ≡ scan ts (chain (view s .op) (view s .count v) (view s .head v)) (view s .mark) .found
-  pub same : view s′ ≡ withMark (scan ts (chain (view s .op) (view s .count v) (view s .head v)) (view s .mark) .mark) (view s)
+  pub found : r ≡ scan ts v (chain (view s .op) (view s .count v) (view s .head v)) (view s .mark) .found
+  pub same : view s′ ≡ withMark (scan ts v (chain (view s .op) (view s .count v) (view s .head v)) (view s .mark) .mark) (view s)
 
 marked : (ts : List ℕ) (s₀ s : List ℤ) (v k h : ℕ) (r : Bool) → k ≡ view s₀ .count v → h ≡ view s₀ .head v → view s ≡ withMark (view s .mark) (view s₀)
-    → record { found = r; mark = view s .mark } ≡ scan ts (chain (view s₀ .op) k h) (view s₀ .mark) → Marked ts s₀ s v r
+    → record { found = r; mark = view s .mark } ≡ scan ts v (chain (view s₀ .op) k h) (view s₀ .mark) → Marked ts s₀ s v r
 marked ts s₀ s v k h r a b e q =
-    let w : record { found = r; mark = view s .mark } ≡ scan ts (chain (view s₀ .op) (view s₀ .count v) (view s₀ .head v)) (view s₀ .mark) =
+    let w : record { found = r; mark = view s .mark } ≡ scan ts v (chain (view s₀ .op) (view s₀ .count v) (view s₀ .head v)) (view s₀ .mark) =
     rw (a, b) at q in
     record {
       found = ap (λ (x : Scan). x .found) w;
       same = e ∙ ap (λ (x : Scan). withMark (x .mark) (view s₀)) w;
     }
 
-pub marked-found : (ts : List ℕ) (s₀ : List ℤ) (v k h : ℕ) (s : List ℤ) (d i : ℕ) → k ≡ view s₀ .count v → h ≡ view s₀ .head v → i < k
-    → clashes ts (view s .mark) d ≡ true → Marking ts s₀ k h s d i → Marked ts s₀ s v true
-marked-found ts s₀ v k h s d i a b l c I = marked ts s₀ s v k h true a b (I .same) (marking-found ts s₀ k h s d i l c I)
+pub marked-found : (ts : List ℕ) (s₀ : List ℤ) (v k h : ℕ) (s s′ : List ℤ) (e i : ℕ) (r : Bool) → k ≡ view s₀ .count v → h ≡ view s₀ .head v → i < k
+    → r ≡ true → Left ts s s′ v (next e) r → Marking ts s₀ v k h s e i → Marked ts s₀ s′ v true
+marked-found ts s₀ v k h s s′ e i r a b l f L I =
+    let x : view s′ ≡ view s = rw f at (L .same) in
+    let m : view s′ .mark ≡ view s .mark = ap (λ (t : Tables). t .mark) x in
+    marked ts s₀ s′ v k h true a b (rw x (I .same)) (rw m (marking-found ts s₀ v k h s e i l (sym (L .found) ∙ f) I))
 
-pub marked-none : (ts : List ℕ) (s₀ : List ℤ) (v k h : ℕ) (s : List ℤ) (d i : ℕ) → k ≡ view s₀ .count v → h ≡ view s₀ .head v → k ≤ i
-    → Marking ts s₀ k h s d i → Marked ts s₀ s v false
+pub marked-none : (ts : List ℕ) (s₀ : List ℤ) (v k h : ℕ) (s : List ℤ) (e i : ℕ) → k ≡ view s₀ .count v → h ≡ view s₀ .head v → k ≤ i
+    → Marking ts s₀ v k h s e i → Marked ts s₀ s v false
 unfolding chain scan
-marked-none ts s₀ v k h s d i a b l I =
+marked-none ts s₀ v k h s e i a b l I =
     let z : k - i ≡ 0 = omega arith in marked ts s₀ s v k h false a b (I .same) (rw z at (I .rest))
 
--- ---- vertex by vertex
+-- ---- vertex by vertex, from u on
 
-pub record Scanning (ts : List ℕ) (n : ℕ) (s₀ s : List ℤ) (v : ℕ) : Type 0 where
+pub record Scanning (ts : List ℕ) (u n : ℕ) (s₀ s : List ℤ) (v : ℕ) : Type 0 where
   pub long : length s ≡ length s₀
   pub same : view s ≡ withMark (view s .mark) (view s₀)
-  pub rest : scanAll ts (view s₀) (n - v) v (view s .mark) ≡ scanAll ts (view s₀) n 0 (view s₀ .mark)
+  pub rest : scanAll ts (view s₀) (n - v) v (view s .mark) ≡ scanAll ts (view s₀) (n - u) u (view s₀ .mark)
 
-pub record Scanned (ts : List ℕ) (n : ℕ) (s s′ : List ℤ) (r : Bool) : Type 0 where
-  pub found : r ≡ scanAll ts (view s) n 0 (view s .mark) .found
-  pub same : view s′ ≡ withMark (scanAll ts (view s) n 0 (view s .mark) .mark) (view s)
+pub record Scanned (ts : List ℕ) (u n : ℕ) (s s′ : List ℤ) (r : Bool) : Type 0 where
+  pub found : r ≡ scanAll ts (view s) (n - u) u (view s .mark) .found
+  pub same : view s′ ≡ withMark (scanAll ts (view s) (n - u) u (view s .mark) .mark) (view s)
 
-pub scanning-start : (ts : List ℕ) (n : ℕ) (s : List ℤ) → Scanning ts n s s 0
+pub scanning-start : (ts : List ℕ) (u n : ℕ) (s : List ℤ) → Scanning ts u n s s u
 unfolding withMark
-scanning-start ts n s =
-    let z : n - 0 ≡ n = omega arith in
-    record { long = refl; same = refl; rest = ap (λ (j : ℕ). scanAll ts (view s) j 0 (view s .mark)) z }
+scanning-start ts u n s = record { long = refl; same = refl; rest = refl }
 
 -- the lists are those of the start
 same-list : (s₀ s : List ℤ) (v : ℕ) → view s ≡ withMark (view s .mark) (view s₀)
@@ -134,35 +182,35 @@ unfolding withMark
 same-list s₀ s v e = ap (λ (t : Tables). chain (t .op) (t .count v) (t .head v)) e
 
 scanned-mark : (ts : List ℕ) (s₀ s s′ : List ℤ) (v : ℕ) (r : Bool) → view s ≡ withMark (view s .mark) (view s₀) → Marked ts s s′ v r
-    → view s′ ≡ withMark (scan ts (chain (view s₀ .op) (view s₀ .count v) (view s₀ .head v)) (view s .mark) .mark) (view s₀)
+    → view s′ ≡ withMark (scan ts v (chain (view s₀ .op) (view s₀ .count v) (view s₀ .head v)) (view s .mark) .mark) (view s₀)
 unfolding withMark
 scanned-mark ts s₀ s s′ v r e M =
     M .same
-    ∙ ap (λ (ds : List ℕ). withMark (scan ts ds (view s .mark) .mark) (view s)) (same-list s₀ s v e)
-    ∙ ap (withMark (scan ts (chain (view s₀ .op) (view s₀ .count v) (view s₀ .head v)) (view s .mark) .mark)) e
+    ∙ ap (λ (ds : List ℕ). withMark (scan ts v ds (view s .mark) .mark) (view s)) (same-list s₀ s v e)
+    ∙ ap (withMark (scan ts v (chain (view s₀ .op) (view s₀ .count v) (view s₀ .head v)) (view s .mark) .mark)) e
 
-pub scanning-found : (ts : List ℕ) (n : ℕ) (s₀ s s′ : List ℤ) (v : ℕ) → v < n → Marked ts s s′ v true → Scanning ts n s₀ s v → Scanned ts n s₀ s′ true
+pub scanning-found : (ts : List ℕ) (u n : ℕ) (s₀ s s′ : List ℤ) (v : ℕ) → v < n → Marked ts s s′ v true → Scanning ts u n s₀ s v → Scanned ts u n s₀ s′ true
 unfolding scanAll
-scanning-found ts n s₀ s s′ v h M I =
+scanning-found ts u n s₀ s s′ v h M I =
     let z : n - v ≡ suc (n - suc v) = omega arith in
-    let one = scan ts (chain (view s₀ .op) (view s₀ .count v) (view s₀ .head v)) (view s .mark) in
-    let f : one .found ≡ true = sym (M .found ∙ ap (λ (ds : List ℕ). scan ts ds (view s .mark) .found) (same-list s₀ s v (I .same))) in
-    let w : record { found = true; mark = one .mark } ≡ scanAll ts (view s₀) n 0 (view s₀ .mark) = rw (z, f) at (I .rest) in
+    let one = scan ts v (chain (view s₀ .op) (view s₀ .count v) (view s₀ .head v)) (view s .mark) in
+    let f : one .found ≡ true = sym (M .found ∙ ap (λ (ds : List ℕ). scan ts v ds (view s .mark) .found) (same-list s₀ s v (I .same))) in
+    let w : record { found = true; mark = one .mark } ≡ scanAll ts (view s₀) (n - u) u (view s₀ .mark) = rw (z, f) at (I .rest) in
     record {
       found = ap (λ (x : Scan). x .found) w;
       same = scanned-mark ts s₀ s s′ v true (I .same) M ∙ ap (λ (x : Scan). withMark (x .mark) (view s₀)) w;
     }
 
-pub scanning-next : (ts : List ℕ) (n : ℕ) (s₀ s s′ : List ℤ) (v : ℕ) → v < n → length s′ ≡ length s → Marked ts s s′ v false → Scanning ts n s₀ s v
-    → Scanning ts n s₀ s′ (v + 1)
+pub scanning-next : (ts : List ℕ) (u n : ℕ) (s₀ s s′ : List ℤ) (v : ℕ) → v < n → length s′ ≡ length s → Marked ts s s′ v false → Scanning ts u n s₀ s v
+    → Scanning ts u n s₀ s′ (v + 1)
 unfolding scanAll withMark
-scanning-next ts n s₀ s s′ v h l M I =
+scanning-next ts u n s₀ s s′ v h l M I =
     let z : n - v ≡ suc (n - (v + 1)) = omega arith in
     let y : v + 1 ≡ suc v = omega arith in
-    let one = scan ts (chain (view s₀ .op) (view s₀ .count v) (view s₀ .head v)) (view s .mark) in
-    let f : one .found ≡ false = sym (M .found ∙ ap (λ (ds : List ℕ). scan ts ds (view s .mark) .found) (same-list s₀ s v (I .same))) in
+    let one = scan ts v (chain (view s₀ .op) (view s₀ .count v) (view s₀ .head v)) (view s .mark) in
+    let f : one .found ≡ false = sym (M .found ∙ ap (λ (ds : List ℕ). scan ts v ds (view s .mark) .found) (same-list s₀ s v (I .same))) in
     let e = scanned-mark ts s₀ s s′ v false (I .same) M in
-    let w : scanAll ts (view s₀) (n - (v + 1)) (suc v) (one .mark) ≡ scanAll ts (view s₀) n 0 (view s₀ .mark) = rw (z, f) at (I .rest) in
+    let w : scanAll ts (view s₀) (n - (v + 1)) (suc v) (one .mark) ≡ scanAll ts (view s₀) (n - u) u (view s₀ .mark) = rw (z, f) at (I .rest) in
     record {
       long = l ∙ I .long;
       same = only-mark (view s′) (view s₀) (one .mark) e;
@@ -171,11 +219,11 @@ scanning-next ts n s₀ s s′ v h l M I =
           ∙ ap (λ (x : ℕ). scanAll ts (view s₀) (n - (v + 1)) x (one .mark)) y ∙ w;
     }
 
-pub scanning-none : (ts : List ℕ) (n : ℕ) (s₀ s : List ℤ) (v : ℕ) → n ≤ v → Scanning ts n s₀ s v → Scanned ts n s₀ s false
+pub scanning-none : (ts : List ℕ) (u n : ℕ) (s₀ s : List ℤ) (v : ℕ) → n ≤ v → Scanning ts u n s₀ s v → Scanned ts u n s₀ s false
 unfolding scanAll
-scanning-none ts n s₀ s v h I =
+scanning-none ts u n s₀ s v h I =
     let z : n - v ≡ 0 = omega arith in
-    let w : record { found = false; mark = view s .mark } ≡ scanAll ts (view s₀) n 0 (view s₀ .mark) = rw z at (I .rest) in
+    let w : record { found = false; mark = view s .mark } ≡ scanAll ts (view s₀) (n - u) u (view s₀ .mark) = rw z at (I .rest) in
     record {
       found = ap (λ (x : Scan). x .found) w;
       same = I .same ∙ ap (λ (x : Scan). withMark (x .mark) (view s₀)) w;
@@ -183,90 +231,107 @@ scanning-none ts n s₀ s v h I =
 
 -- ---- the darts that arrive at a vertex find their opposites
 
-pub record Tying (ts : List ℕ) (s₀ : List ℤ) (k h : ℕ) (s : List ℤ) (d i : ℕ) : Type 0 where
+-- the dart before d finds its opposite, and stores it
+pub record Met (ts : List ℕ) (s s′ : List ℤ) (v d : ℕ) (r : Bool) : Type 0 where
+  pub met : r ≡ meets ts v (view s .mark) d
+  pub same : view s′ ≡ cond r (setOp (prev d) (facing ts (view s .mark) d) (view s)) (view s)
+
+met-is : (ts : List ℕ) (v : ℕ) (mark : ℕ → ℕ) (e : ℕ) → meets ts v mark (next e) ≡ (ltb e (length ts) && isOf v (mark (2 * org ts e)))
+unfolding meets
+met-is ts v mark e = rw (prev-next e)
+
+pub met-past : (ts : List ℕ) (s : List ℤ) (v e : ℕ) → length ts ≤ e → Met ts s s v (next e) false
+met-past ts s v e h = record {
+  met = sym (met-is ts v (view s .mark) e ∙ ap (λ (b : Bool). b && isOf v (view s .mark (2 * org ts e))) (le-ltb e (length ts) h));
+  same = refl;
+}
+
+module _ (ts : List ℕ) (s : List ℤ) (v e w m : ℕ) (h : e < length ts) (at : w ≡ org ts e) (is : m ≡ view s .mark (2 * w)) where
+  mark-here : m ≡ view s .mark (2 * org ts e)
+  mark-here = is ∙ ap (λ (x : ℕ). view s .mark (2 * x)) at
+
+  met-so : meets ts v (view s .mark) (next e) ≡ isOf v m
+  met-so =
+      met-is ts v (view s .mark) e ∙ ap (λ (b : Bool). b && isOf v (view s .mark (2 * org ts e))) (lt-ltb e (length ts) h)
+      ∙ ap (isOf v) (sym mark-here)
+
+  pub met-none : (m / 65536 ≡ v + 1 → ⊥) → Met ts s s v (next e) false
+  unfolding isOf
+  met-none f = record { met = sym (met-so ∙ ne-eqb (m / 65536) (v + 1) f); same = refl }
+
+  pub met-one : (s′ : List ℤ) → m / 65536 ≡ v + 1 → view s′ ≡ setOp e (m % 65536) (view s) → Met ts s s′ v (next e) true
+  unfolding isOf facing
+  met-one s′ f q = record { met = sym (met-so ∙ eq-eqb (m / 65536) (v + 1) f); same = q ∙ rw (prev-next e, mark-here) }
+
+pub record Tying (ts : List ℕ) (s₀ : List ℤ) (v k h : ℕ) (s : List ℤ) (e i : ℕ) : Type 0 where
   pub long : length s ≡ length s₀
-  pub small : d < 2 ^ 63
+  pub small : e < 2 ^ 63
   pub same : view s ≡ withOp (view s .op) (view s₀)
-  pub rest : join ts (view s₀ .mark) (k - i) d (view s .op) ≡ join ts (view s₀ .mark) k h (view s₀ .op)
+  pub rest : join ts v (view s₀ .mark) (k - i) (next e) (view s .op) ≡ join ts v (view s₀ .mark) k h (view s₀ .op)
 
 pub record Tied (ts : List ℕ) (s s′ : List ℤ) (v : ℕ) (r : Bool) : Type 0 where
-  pub lacks : r ≡ join ts (view s .mark) (view s .count v) (view s .head v) (view s .op) .lacks
-  pub same : view s′ ≡ withOp (join ts (view s .mark) (view s .count v) (view s .head v) (view s .op) .op) (view s)
+  pub lacks : r ≡ join ts v (view s .mark) (view s .count v) (view s .head v) (view s .op) .lacks
+  pub same : view s′ ≡ withOp (join ts v (view s .mark) (view s .count v) (view s .head v) (view s .op) .op) (view s)
 
-pub tying-start : (ts : List ℕ) (s : List ℤ) (k h : ℕ) → h < 2 ^ 63 → Tying ts s k h s h 0
+pub tying-start : (ts : List ℕ) (s : List ℤ) (v k h e : ℕ) → e ≡ prev h → e < 2 ^ 63 → Tying ts s v k h s e 0
 unfolding withOp
-tying-start ts s k h l =
+tying-start ts s v k h e q l =
     let z : k - 0 ≡ k = omega arith in
-    record { long = refl; small = l; same = refl; rest = ap (λ (j : ℕ). join ts (view s .mark) j h (view s .op)) z }
+    let y : next e ≡ h = ap next q ∙ next-prev h in
+    record { long = refl; small = l; same = refl; rest = rw (z, y) }
 
 same-mark : (s₀ s : List ℤ) → view s ≡ withOp (view s .op) (view s₀) → view s .mark ≡ view s₀ .mark
 unfolding withOp
 same-mark s₀ s e = ap (λ (t : Tables). t .mark) e
 
-pub tying-next : (ts : List ℕ) (s₀ : List ℤ) (k h : ℕ) (s s′ : List ℤ) (d d′ i : ℕ) → i < k → meets ts (view s .mark) d ≡ true
-    → length s′ ≡ length s → view s′ ≡ setOp (prev d) (facing ts (view s .mark) d) (view s) → d′ ≡ view s .op (prev d) → d′ < 2 ^ 63
-    → Tying ts s₀ k h s d i → Tying ts s₀ k h s′ d′ (i + 1)
+pub tying-next : (ts : List ℕ) (s₀ : List ℤ) (v k h : ℕ) (s s′ : List ℤ) (e e′ i : ℕ) (r : Bool) → i < k → r ≡ true → length s′ ≡ length s
+    → Met ts s s′ v (next e) r → e′ ≡ view s .op e → e′ < 2 ^ 63 → Tying ts s₀ v k h s e i → Tying ts s₀ v k h s′ e′ (i + 1)
 unfolding setOp withOp join
-tying-next ts s₀ k h s s′ d d′ i l c m e q b I =
+tying-next ts s₀ v k h s s′ e e′ i r l f m M q b I =
     let z : k - i ≡ suc (k - (i + 1)) = omega arith in
     let o = same-mark s₀ s (I .same) in
-    let c′ : meets ts (view s₀ .mark) d ≡ true = rw o at c in
-    let a : view s′ .op ≡ upd (prev d) (facing ts (view s₀ .mark) d) (view s .op) =
-    ap (λ (t : Tables). t .op) e ∙ ap (λ (f : ℕ → ℕ). upd (prev d) (facing ts f d) (view s .op)) o in
-    let w : join ts (view s₀ .mark) (k - (i + 1)) (view s .op (prev d)) (upd (prev d) (facing ts (view s₀ .mark) d) (view s .op))
-    ≡ join ts (view s₀ .mark) k h (view s₀ .op) = rw (z, c′) at (I .rest) in
+    let c : meets ts v (view s₀ .mark) (next e) ≡ true = ap (λ (g : ℕ → ℕ). meets ts v g (next e)) (sym o) ∙ sym (M .met) ∙ f in
+    let x : view s′ ≡ setOp e (facing ts (view s .mark) (next e)) (view s) = rw (f, prev-next e) at (M .same) in
+    let to = upd e (facing ts (view s .mark) (next e)) (view s .op) in
+    let a : view s′ .op ≡ upd e (facing ts (view s₀ .mark) (next e)) (view s .op) =
+    ap (λ (t : Tables). t .op) x ∙ ap (λ (f : ℕ → ℕ). upd e (facing ts f (next e)) (view s .op)) o in
+    let w : join ts v (view s₀ .mark) (k - (i + 1)) (next (view s .op e)) (upd e (facing ts (view s₀ .mark) (next e)) (view s .op))
+    ≡ join ts v (view s₀ .mark) k h (view s₀ .op) = rw (z, c, prev-next e) at (I .rest) in
     record {
       long = m ∙ I .long;
       small = b;
-      same = only-op (view s′) (view s₀) (upd (prev d) (facing ts (view s .mark) d) (view s .op))
-          (e ∙ ap (withOp (upd (prev d) (facing ts (view s .mark) d) (view s .op))) (I .same));
+      same = only-op (view s′) (view s₀) to (x ∙ ap (withOp to) (I .same));
       rest = rw (a, q) w;
     }
 
 tied : (ts : List ℕ) (s₀ s : List ℤ) (v k h : ℕ) (r : Bool) → k ≡ view s₀ .count v → h ≡ view s₀ .head v → view s ≡ withOp (view s .op) (view s₀)
-    → record { lacks = r; op = view s .op } ≡ join ts (view s₀ .mark) k h (view s₀ .op) → Tied ts s₀ s v r
+    → record { lacks = r; op = view s .op } ≡ join ts v (view s₀ .mark) k h (view s₀ .op) → Tied ts s₀ s v r
 tied ts s₀ s v k h r a b e q =
-    let w : record { lacks = r; op = view s .op } ≡ join ts (view s₀ .mark) (view s₀ .count v) (view s₀ .head v) (view s₀ .op) = rw (a, b) at q in
+    let w : record { lacks = r; op = view s .op } ≡ join ts v (view s₀ .mark) (view s₀ .count v) (view s₀ .head v) (view s₀ .op) = rw (a, b) at q in
     record {
       lacks = ap (λ (x : Join). x .lacks) w;
       same = e ∙ ap (λ (x : Join). withOp (x .op) (view s₀)) w;
     }
 
-pub tied-lacks : (ts : List ℕ) (s₀ : List ℤ) (v k h : ℕ) (s : List ℤ) (d i : ℕ) → k ≡ view s₀ .count v → h ≡ view s₀ .head v → i < k
-    → meets ts (view s .mark) d ≡ false → Tying ts s₀ k h s d i → Tied ts s₀ s v true
+pub tied-lacks : (ts : List ℕ) (s₀ : List ℤ) (v k h : ℕ) (s s′ : List ℤ) (e i : ℕ) (r : Bool) → k ≡ view s₀ .count v → h ≡ view s₀ .head v → i < k
+    → r ≡ false → Met ts s s′ v (next e) r → Tying ts s₀ v k h s e i → Tied ts s₀ s′ v true
 unfolding join
-tied-lacks ts s₀ v k h s d i a b l c I =
+tied-lacks ts s₀ v k h s s′ e i r a b l f M I =
     let z : k - i ≡ suc (k - (i + 1)) = omega arith in
-    let c′ : meets ts (view s₀ .mark) d ≡ false = rw (same-mark s₀ s (I .same)) at c in
-    tied ts s₀ s v k h true a b (I .same) (rw (z, c′) at (I .rest))
+    let o = same-mark s₀ s (I .same) in
+    let c : meets ts v (view s₀ .mark) (next e) ≡ false = ap (λ (g : ℕ → ℕ). meets ts v g (next e)) (sym o) ∙ sym (M .met) ∙ f in
+    let x : view s′ ≡ view s = rw f at (M .same) in
+    let p : view s′ .op ≡ view s .op = ap (λ (t : Tables). t .op) x in
+    let w : record { lacks = true; op = view s .op } ≡ join ts v (view s₀ .mark) k h (view s₀ .op) = rw (z, c) at (I .rest) in
+    tied ts s₀ s′ v k h true a b (rw x (I .same)) (rw p w)
 
-pub tied-none : (ts : List ℕ) (s₀ : List ℤ) (v k h : ℕ) (s : List ℤ) (d i : ℕ) → k ≡ view s₀ .count v → h ≡ view s₀ .head v → k ≤ i
-    → Tying ts s₀ k h s d i → Tied ts s₀ s v false
+pub tied-none : (ts : List ℕ) (s₀ : List ℤ) (v k h : ℕ) (s : List ℤ) (e i : ℕ) → k ≡ view s₀ .count v → h ≡ view s₀ .head v → k ≤ i
+    → Tying ts s₀ v k h s e i → Tied ts s₀ s v false
 unfolding join
-tied-none ts s₀ v k h s d i a b l I =
+tied-none ts s₀ v k h s e i a b l I =
     let z : k - i ≡ 0 = omega arith in tied ts s₀ s v k h false a b (I .same) (rw z at (I .rest))
 
--- ---- both, at one vertex and then vertex by vertex
-
--- after the walk that marks
-abbrev pub markedAt : List ℕ → Tables → ℕ → Scan
-markedAt ts t v = scan ts (chain (t .op) (t .count v) (t .head v)) (t .mark)
-
-abbrev pub tiedAt : List ℕ → Tables → ℕ → Join
-tiedAt ts t v = join ts (markedAt ts t v .mark) (t .count v) (t .head v) (t .op)
-
-pub record Matched (ts : List ℕ) (s s′ : List ℤ) (v : ℕ) (r : Bool) : Type 0 where
-  pub lacks : r ≡ tiedAt ts (view s) v .lacks
-  pub same : view s′ ≡ withOp (tiedAt ts (view s) v .op) (withMark (markedAt ts (view s) v .mark) (view s))
-
-pub matched : (ts : List ℕ) (s s₁ s₂ : List ℤ) (v : ℕ) (a b : Bool) → Marked ts s s₁ v a → Tied ts s₁ s₂ v b → Matched ts s s₂ v b
-unfolding withMark withOp
-matched ts s s₁ s₂ v a b M J =
-    let e = M .same in
-    record {
-      lacks = J .lacks ∙ ap (λ (t : Tables). join ts (t .mark) (t .count v) (t .head v) (t .op) .lacks) e;
-      same = J .same ∙ ap (λ (t : Tables). withOp (join ts (t .mark) (t .count v) (t .head v) (t .op) .op) t) e;
-    }
+-- ---- both, vertex by vertex
 
 pub record Matching (ts : List ℕ) (n : ℕ) (s₀ s : List ℤ) (v : ℕ) : Type 0 where
   pub long : length s ≡ length s₀
@@ -276,9 +341,10 @@ pub record Matching (ts : List ℕ) (n : ℕ) (s₀ s : List ℤ) (v : ℕ) : Ty
 abbrev pub joinedAll : List ℕ → ℕ → Tables → Round
 joinedAll ts n t = joinAll ts t n 0 (t .mark) (t .op)
 
-pub record AllMatched (ts : List ℕ) (n : ℕ) (s s′ : List ℤ) (r : Bool) : Type 0 where
-  pub lacks : r ≡ joinedAll ts n (view s) .lacks
-  pub same : view s′ ≡ withOp (joinedAll ts n (view s) .op) (withMark (joinedAll ts n (view s) .mark) (view s))
+-- the row that is found, and the tables where none is
+pub record AllMatched (ts : List ℕ) (n : ℕ) (s s′ : List ℤ) (r : ℕ) : Type 0 where
+  pub row : r ≡ joinedAll ts n (view s) .row
+  pub same : r ≡ 0 → view s′ ≡ withOp (joinedAll ts n (view s) .op) (withMark (joinedAll ts n (view s) .mark) (view s))
 
 pub matching-start : (ts : List ℕ) (n : ℕ) (s : List ℤ) → Matching ts n s s 0
 unfolding withMark withOp
@@ -286,75 +352,100 @@ matching-start ts n s =
     let z : n - 0 ≡ n = omega arith in
     record { long = refl; same = refl; rest = ap (λ (j : ℕ). joinAll ts (view s) j 0 (view s .mark) (view s .op)) z }
 
-module _ (ts : List ℕ) (n : ℕ) (s₀ s s′ : List ℤ) (v : ℕ) (h : v < n) (I : Matching ts n s₀ s v) where
+module _ (ts : List ℕ) (n : ℕ) (s₀ s s₁ : List ℤ) (v : ℕ) (h : v < n) (I : Matching ts n s₀ s v) where
   one : Scan
-  one = scan ts (chain (view s .op) (view s₀ .count v) (view s₀ .head v)) (view s .mark)
+  one = scan ts v (chain (view s .op) (view s₀ .count v) (view s₀ .head v)) (view s .mark)
 
   two : Join
   unfolding one
-  two = join ts (one .mark) (view s₀ .count v) (view s₀ .head v) (view s .op)
+  two = join ts v (one .mark) (view s₀ .count v) (view s₀ .head v) (view s .op)
 
-  one-is : markedAt ts (view s) v ≡ one
+  one-is : scan ts v (chain (view s .op) (view s .count v) (view s .head v)) (view s .mark) ≡ one
   unfolding withMark withOp one
-  one-is = ap (λ (t : Tables). scan ts (chain (view s .op) (t .count v) (t .head v)) (view s .mark)) (I .same)
+  one-is = ap (λ (t : Tables). scan ts v (chain (view s .op) (t .count v) (t .head v)) (view s .mark)) (I .same)
 
-  two-is : tiedAt ts (view s) v ≡ two
-  unfolding withMark withOp one two
-  two-is = ap (λ (t : Tables). join ts (scan ts (chain (view s .op) (t .count v) (t .head v)) (view s .mark) .mark) (t .count v) (t .head v) (view s .op)) (I .same)
-
-  now-is : (r : Bool) → Matched ts s s′ v r → view s′ ≡ withOp (two .op) (withMark (one .mark) (view s₀))
-  unfolding withMark withOp
-  now-is r M =
-      M .same
-      ∙ ap (λ (j : Join). withOp (j .op) (withMark (markedAt ts (view s) v .mark) (view s))) two-is
-      ∙ ap (λ (x : Scan). withOp (two .op) (withMark (x .mark) (view s))) one-is
-      ∙ ap (λ (t : Tables). withOp (two .op) (withMark (one .mark) t)) (I .same)
-
-  pub matching-lacks : Matched ts s s′ v true → AllMatched ts n s₀ s′ true
-  unfolding joinAll one two
-  matching-lacks M =
+  pub matching-twice : (r : Bool) → r ≡ true → (s′ : List ℤ) → Marked ts s s₁ v r → AllMatched ts n s₀ s′ 5
+  unfolding joinAll one
+  matching-twice r e s′ M =
       let z : n - v ≡ suc (n - (v + 1)) = omega arith in
-      let f : two .lacks ≡ true = sym (M .lacks ∙ ap (λ (j : Join). j .lacks) two-is) in
-      let w : record { lacks = true; op = two .op; mark = one .mark } ≡ joinedAll ts n (view s₀) = rw (z, f) at (I .rest) in
-      record {
-        lacks = ap (λ (x : Round). x .lacks) w;
-        same = now-is true M ∙ ap (λ (x : Round). withOp (x .op) (withMark (x .mark) (view s₀))) w;
-      }
+      let f : one .found ≡ true = sym (sym e ∙ M .found ∙ ap (λ (x : Scan). x .found) one-is) in
+      let w : record { row = 5; op = view s .op; mark = one .mark } ≡ joinedAll ts n (view s₀) = rw (z, f) at (I .rest) in
+      record { row = ap (λ (x : Round). x .row) w; same = λ q. absurd (omega (arith, q)) }
 
-  pub matching-next : length s′ ≡ length s → Matched ts s s′ v false → Matching ts n s₀ s′ (v + 1)
-  unfolding joinAll one two withMark withOp
-  matching-next l M =
-      let z : n - v ≡ suc (n - suc v) = omega arith in
-      let y : v + 1 ≡ suc v = omega arith in
-      let f : two .lacks ≡ false = sym (M .lacks ∙ ap (λ (j : Join). j .lacks) two-is) in
-      let w : joinAll ts (view s₀) (n - suc v) (suc v) (one .mark) (two .op) ≡ joinedAll ts n (view s₀) = rw (z, f) at (I .rest) in
-      let e = now-is false M in
-      let a : view s′ .mark ≡ one .mark = ap (λ (t : Tables). t .mark) e in
-      let b : view s′ .op ≡ two .op = ap (λ (t : Tables). t .op) e in
-      record {
-        long = l ∙ I .long;
-        same =
-            e ∙ ap (λ (g : ℕ → ℕ). withOp g (withMark (one .mark) (view s₀))) (sym b)
-            ∙ ap (λ (g : ℕ → ℕ). withOp (view s′ .op) (withMark g (view s₀))) (sym a);
-        rest = rw (a, b, y) w;
-      }
+  -- after the marks, and after the opposites
+  module _ (r : Bool) (e : r ≡ false) (M : Marked ts s s₁ v r) (s₂ : List ℤ) (q : Bool) (J : Tied ts s₁ s₂ v q) where
+    clean : one .found ≡ false
+    clean = sym (sym e ∙ M .found ∙ ap (λ (x : Scan). x .found) one-is)
 
-pub matching-none : (ts : List ℕ) (n : ℕ) (s₀ s : List ℤ) (v : ℕ) → n ≤ v → Matching ts n s₀ s v → AllMatched ts n s₀ s false
+    marks-are : view s₁ ≡ withOp (view s .op) (withMark (one .mark) (view s₀))
+    unfolding withMark withOp
+    marks-are =
+        M .same
+        ∙ ap (λ (x : Scan). withMark (x .mark) (view s)) one-is
+        ∙ ap (withMark (one .mark)) (I .same)
+
+    two-is : join ts v (view s₁ .mark) (view s₁ .count v) (view s₁ .head v) (view s₁ .op) ≡ two
+    unfolding withMark withOp two
+    two-is = ap (λ (t : Tables). join ts v (t .mark) (t .count v) (t .head v) (t .op)) marks-are
+
+    now-is : view s₂ ≡ withOp (two .op) (withMark (one .mark) (view s₀))
+    unfolding withMark withOp
+    now-is =
+        J .same
+        ∙ ap (λ (j : Join). withOp (j .op) (view s₁)) two-is
+        ∙ ap (withOp (two .op)) marks-are
+
+    pub matching-next : q ≡ false → length s₂ ≡ length s → Matching ts n s₀ s₂ (v + 1)
+    unfolding joinAll one two withMark withOp
+    matching-next g l =
+        let z : n - v ≡ suc (n - suc v) = omega arith in
+        let y : v + 1 ≡ suc v = omega arith in
+        let f : two .lacks ≡ false = sym (sym g ∙ J .lacks ∙ ap (λ (j : Join). j .lacks) two-is) in
+        let w : joinAll ts (view s₀) (n - suc v) (suc v) (one .mark) (two .op) ≡ joinedAll ts n (view s₀) = rw (z, clean, f) at (I .rest) in
+        let a : view s₂ .mark ≡ one .mark = ap (λ (t : Tables). t .mark) now-is in
+        let b : view s₂ .op ≡ two .op = ap (λ (t : Tables). t .op) now-is in
+        record {
+          long = l ∙ I .long;
+          same =
+              now-is ∙ ap (λ (g : ℕ → ℕ). withOp g (withMark (one .mark) (view s₀))) (sym b)
+              ∙ ap (λ (g : ℕ → ℕ). withOp (view s₂ .op) (withMark g (view s₀))) (sym a);
+          rest = rw (a, b, y) w;
+        }
+
+    -- an opposite is lacking; the marks have gone on alone
+    module _ (g : q ≡ true) (s₃ : List ℤ) (p : Bool) (S : Scanned ts (v + 1) n s₂ s₃ p) where
+      goes-on : p ≡ scanAll ts (withOp (two .op) (withMark (one .mark) (view s₀))) (n - suc v) (suc v) (one .mark) .found
+      unfolding withMark withOp
+      goes-on =
+          let y : v + 1 ≡ suc v = omega arith in
+          S .found ∙ ap (λ (x : ℕ). scanAll ts (view s₂) (n - x) x (view s₂ .mark) .found) y
+          ∙ ap (λ (t : Tables). scanAll ts t (n - suc v) (suc v) (t .mark) .found) now-is
+
+      row-is : cond p 5 6 ≡ joinedAll ts n (view s₀) .row
+      unfolding joinAll one two
+      row-is =
+          let z : n - v ≡ suc (n - suc v) = omega arith in
+          let f : two .lacks ≡ true = sym (sym g ∙ J .lacks ∙ ap (λ (j : Join). j .lacks) two-is) in
+          let w : record { row = cond (scanAll ts (withOp (two .op) (withMark (one .mark) (view s₀))) (n - suc v) (suc v) (one .mark) .found) 5 6; op = two .op; mark = one .mark }
+          ≡ joinedAll ts n (view s₀) = rw (z, clean, f) at (I .rest) in
+          ap (λ (b : Bool). cond b 5 6) goes-on ∙ ap (λ (x : Round). x .row) w
+
+      pub matching-later : p ≡ true → (s′ : List ℤ) → AllMatched ts n s₀ s′ 5
+      matching-later f s′ = record { row = rw f at row-is; same = λ q. absurd (omega (arith, q)) }
+
+      pub matching-lacks : p ≡ false → (s′ : List ℤ) → AllMatched ts n s₀ s′ 6
+      matching-lacks f s′ = record { row = rw f at row-is; same = λ q. absurd (omega (arith, q)) }
+
+pub matching-none : (ts : List ℕ) (n : ℕ) (s₀ s : List ℤ) (v : ℕ) → n ≤ v → Matching ts n s₀ s v → AllMatched ts n s₀ s 0
 unfolding joinAll
 matching-none ts n s₀ s v h I =
     let z : n - v ≡ 0 = omega arith in
-    let w : record { lacks = false; op = view s .op; mark = view s .mark } ≡ joinedAll ts n (view s₀) = rw z at (I .rest) in
+    let w : record { row = 0; op = view s .op; mark = view s .mark } ≡ joinedAll ts n (view s₀) = rw z at (I .rest) in
     record {
-      lacks = ap (λ (x : Round). x .lacks) w;
-      same = I .same ∙ ap (λ (x : Round). withOp (x .op) (withMark (x .mark) (view s₀))) w;
+      row = ap (λ (x : Round). x .row) w;
+      same = λ _. I .same ∙ ap (λ (x : Round). withOp (x .op) (withMark (x .mark) (view s₀))) w;
     }
 
 -- a result that a test has told
 pub marked-as : (ts : List ℕ) (s s′ : List ℤ) (v : ℕ) (r : Bool) {b : Bool} → r ≡ b → Marked ts s s′ v r → Marked ts s s′ v b
 marked-as ts s s′ v r e M = rw e at M
-
-pub matched-as : (ts : List ℕ) (s s′ : List ℤ) (v : ℕ) (r : Bool) {b : Bool} → r ≡ b → Matched ts s s′ v r → Matched ts s s′ v b
-matched-as ts s s′ v r e M = rw e at M
-
-pub all-matched-as : (ts : List ℕ) (n : ℕ) (s s′ : List ℤ) (r : Bool) {b : Bool} → r ≡ b → AllMatched ts n s s′ r → AllMatched ts n s s′ b
-all-matched-as ts n s s′ r e M = rw e at M

@@ -1,28 +1,25 @@
-// Rows 3 to 6 of the table of refusals. Sides are matched through the lists of darts by origin: the darts that leave a vertex leave their numbers at
+// Rows 3 to 6 of the table of refusals. Sides are matched through the lists of darts by origin: the darts that leave a vertex leave their marks at
 // the vertices that they lead to, and those that arrive find their opposites there. Each dart is met a fixed number of times.
+use tables::after;
 use tables::before;
-use tables::end;
 use tables::get_count;
 use tables::get_head;
 use tables::get_mark;
 use tables::get_op;
-use tables::opposite_sides;
-use tables::same_side;
 use tables::set_count;
 use tables::set_head;
 use tables::set_mark;
 use tables::set_op;
 use tables::vertex;
 ghost use mathlib.Core.Path.{_≡_};
-ghost use Prim.Native.Nat.{_<_, _^_};
+ghost use Prim.Native.Nat.{_%_, _<_, _^_};
 ghost use lib.ListN.{length};
-ghost use Rattle.definitions.specs.Mesh.{prev, row3, row4};
-ghost use Rattle.tables.specs.Tables.{dartAt, view, setOp, setMark};
+ghost use Rattle.definitions.specs.Mesh.{next, row3, row4};
+ghost use Rattle.tables.specs.Tables.{view};
 ghost use Rattle.checkwork.specs.Buckets.{push, fill};
-ghost use Rattle.checkwork.specs.Twice.{clashes};
-ghost use Rattle.checkwork.specs.Join.{facing, meets};
-ghost use Rattle.sides.specs.Room.{Room, Pushing, Filling};
-ghost use Rattle.sides.specs.Turns.{Marked, Scanned, Tied, Matched, AllMatched};
+ghost use Rattle.sides.specs.Room.{AtVertex, Ready, Pushing, Filling};
+ghost use Rattle.sides.specs.Turns.{Left, Marked, Scanned, Met, Tied, AllMatched};
+ghost use Rattle.sides.specs.Threes.{doubledAt};
 
 // row 3: a vertex number n or more
 pub fn high_vertex(n: usize, triangles: &[u16]) -> bool
@@ -39,18 +36,34 @@ pub fn high_vertex(n: usize, triangles: &[u16]) -> bool
     false
 }
 
+// A vertex is twice in the triangle of which d is the first dart.
+fn doubled_at(triangles: &[u16], d: usize) -> bool
+    requires { ⌜ (d % 3 ≡ 0) × (d < 2 ^ 62) ⌝ }
+    ensures { λ r. ⌜ r ≡ doubledAt (now (triangles .entry)) d ⌝ }
+{
+    let a = vertex(triangles, d);
+    let b = vertex(triangles, d + 1);
+    let c = vertex(triangles, d + 2);
+    if a == b {
+        return true;
+    }
+    if b == c {
+        return true;
+    }
+    c == a
+}
+
 // row 4: a vertex twice in a triangle
 pub fn doubled_vertex(triangles: &[u16]) -> bool
+    requires { ⌜ (length (now triangles) % 3 ≡ 0) × (length (now triangles) < 2 ^ 62) ⌝ }
     ensures { λ r. ⌜ r ≡ row4 (now (triangles .entry)) ⌝ }
 {
     let mut d = 0;
     while d < triangles.len() {
-        let v = vertex(triangles, d);
-        let w = end(triangles, d);
-        if v == w {
+        if doubled_at(triangles, d) {
             return true;
         }
-        d += 1;
+        d += 3;
     }
     false
 }
@@ -63,7 +76,7 @@ fn put_first(triangles: &[u16], s: &mut [i64], d: usize)
     let v = vertex(triangles, d);
     let first = get_head(s, v);
     let count = get_count(s, v);
-    set_op(s, before(d), first);
+    set_op(s, before(d), before(first));
     set_head(s, v, d);
     set_count(s, v, count + 1);
 }
@@ -80,47 +93,46 @@ pub fn fill_lists(triangles: &[u16], s: &mut [i64])
     }
 }
 
-// Another dart of the side of d has left its mark where d leads.
-fn finds_twin(triangles: &[u16], s: &[i64], d: usize) -> bool
-    requires { ⌜ d < 2 ^ 63 ⌝ }
-    ensures { λ r. ⌜ r ≡ clashes (now (triangles .entry)) (view (now (s .entry)) .mark) d ⌝ }
+// The dart after e, which leaves v, leaves its mark where it leads; true, where a mark of v is there already.
+fn leave_mark(triangles: &[u16], s: &mut [i64], v: usize, e: usize) -> bool
+    requires { ⌜ AtVertex (now triangles) (length (now s)) v × (e < 2 ^ 63) ⌝ }
+    ensures { λ r. ⌜ Left (now (triangles .entry)) (now (s .entry)) (now (s .exit)) v (next e) r ⌝ }
 {
-    let w = end(triangles, d);
-    let e = get_mark(s, w);
-    if d == e {
-        false
-    } else {
-        same_side(triangles, d, e)
+    let w = vertex(triangles, before(e));
+    let m = get_mark(s, 2 * w);
+    if m / 65536 == v + 1 {
+        return true;
     }
+    let d = after(e);
+    set_mark(s, 2 * w, 65536 * (v + 1) + d % 65536);
+    false
 }
 
 // The darts that leave v leave their marks; true, where a side is there twice.
 fn mark_leaving(triangles: &[u16], s: &mut [i64], v: usize) -> bool
-    requires { ⌜ Room (now triangles) (length (now s)) ⌝ }
+    requires { ⌜ AtVertex (now triangles) (length (now s)) v × (view (now s) .head v < 2 ^ 62) ⌝ }
     ensures { λ r. ⌜ Marked (now (triangles .entry)) (now (s .entry)) (now (s .exit)) v r ⌝ }
 {
     let k = get_count(s, v);
     let h = get_head(s, v);
-    let mut d = h;
+    let mut e = before(h);
     let mut i = 0;
     while i < k {
-        if finds_twin(triangles, s, d) {
+        if leave_mark(triangles, s, v, e) {
             return true;
         }
-        let w = end(triangles, d);
-        set_mark(s, w, d);
-        d = get_op(s, before(d));
+        e = get_op(s, e);
         i += 1;
     }
     false
 }
 
-// row 5: a side twice
-pub fn side_twice(n: usize, triangles: &[u16], s: &mut [i64]) -> bool
-    requires { ⌜ Room (now triangles) (length (now s)) ⌝ }
-    ensures { λ r. ⌜ Scanned (now (triangles .entry)) n (now (s .entry)) (now (s .exit)) r ⌝ }
+// A side of a vertex u or later is there twice.
+fn side_twice(u: usize, n: usize, triangles: &[u16], s: &mut [i64]) -> bool
+    requires { ⌜ Ready (now triangles) (now s) n ⌝ }
+    ensures { λ r. ⌜ Scanned (now (triangles .entry)) u n (now (s .entry)) (now (s .exit)) r ⌝ }
 {
-    let mut v = 0;
+    let mut v = u;
     while v < n {
         if mark_leaving(triangles, s, v) {
             return true;
@@ -130,48 +142,36 @@ pub fn side_twice(n: usize, triangles: &[u16], s: &mut [i64]) -> bool
     false
 }
 
-// The dart before d finds its opposite where it comes from.
-fn finds_opposite(triangles: &[u16], s: &[i64], d: usize) -> bool
-    requires { ⌜ d < 2 ^ 63 ⌝ }
-    ensures { λ r. ⌜ r ≡ meets (now (triangles .entry)) (view (now (s .entry)) .mark) d ⌝ }
+// Dart e, which arrives at v, finds the mark of its opposite where it comes from, and stores it in place of its link; false, where there is none.
+fn meet_opposite(triangles: &[u16], s: &mut [i64], v: usize, e: usize) -> bool
+    requires { ⌜ AtVertex (now triangles) (length (now s)) v ⌝ }
+    ensures { λ r. ⌜ Met (now (triangles .entry)) (now (s .entry)) (now (s .exit)) v (next e) r ⌝ }
 {
-    if d < triangles.len() {
-        let e = before(d);
+    if e < triangles.len() {
         let w = vertex(triangles, e);
-        let x = get_mark(s, w);
-        opposite_sides(triangles, e, x)
-    } else {
-        false
+        let m = get_mark(s, 2 * w);
+        if m / 65536 == v + 1 {
+            set_op(s, e, m % 65536);
+            return true;
+        }
+        return false;
     }
-}
-
-// The opposite is stored in place of the link of d, which is returned.
-fn store_opposite(triangles: &[u16], s: &mut [i64], d: usize) -> usize
-    requires { ⌜ (d < 2 ^ 63) × (dartAt (prev d) < length (now s)) ⌝ }
-    ensures link { λ r. ⌜ r ≡ view (now (s .entry)) .op (prev d) ⌝ }
-    ensures small { λ r. ⌜ r < 2 ^ 63 ⌝ }
-    ensures stored { λ r. ⌜ view (now (s .exit)) ≡ setOp (prev d) (facing (now (triangles .entry)) (view (now (s .entry)) .mark) d) (view (now (s .entry))) ⌝ }
-{
-    let e = before(d);
-    let w = vertex(triangles, e);
-    let x = get_mark(s, w);
-    let link = get_op(s, e);
-    set_op(s, e, x);
-    link
+    false
 }
 
 // The darts that arrive at v find their opposites; true, where one is lacking.
 fn match_arriving(triangles: &[u16], s: &mut [i64], v: usize) -> bool
-    requires { ⌜ Room (now triangles) (length (now s)) ⌝ }
+    requires { ⌜ AtVertex (now triangles) (length (now s)) v × (view (now s) .head v < 2 ^ 62) ⌝ }
     ensures { λ r. ⌜ Tied (now (triangles .entry)) (now (s .entry)) (now (s .exit)) v r ⌝ }
 {
     let k = get_count(s, v);
     let h = get_head(s, v);
-    let mut d = h;
+    let mut e = before(h);
     let mut i = 0;
     while i < k {
-        if finds_opposite(triangles, s, d) {
-            d = store_opposite(triangles, s, d);
+        let link = get_op(s, e);
+        if meet_opposite(triangles, s, v, e) {
+            e = link;
             i += 1;
         } else {
             return true;
@@ -180,25 +180,24 @@ fn match_arriving(triangles: &[u16], s: &mut [i64], v: usize) -> bool
     false
 }
 
-fn match_at(triangles: &[u16], s: &mut [i64], v: usize) -> bool
-    requires { ⌜ Room (now triangles) (length (now s)) ⌝ }
-    ensures { λ r. ⌜ Matched (now (triangles .entry)) (now (s .entry)) (now (s .exit)) v r ⌝ }
-{
-    mark_leaving(triangles, s, v);
-    match_arriving(triangles, s, v)
-}
-
-// row 6: a side lacks its opposite; where none does, the opposites are stored
-pub fn match_sides(n: usize, triangles: &[u16], s: &mut [i64]) -> bool
-    requires { ⌜ Room (now triangles) (length (now s)) ⌝ }
+// Row 5, a side twice, or row 6, a side lacks its opposite; or 0, and the opposites are stored. Where an opposite is lacking the search for a side
+// twice goes on alone.
+pub fn match_sides(n: usize, triangles: &[u16], s: &mut [i64]) -> usize
+    requires { ⌜ Ready (now triangles) (now s) n ⌝ }
     ensures { λ r. ⌜ AllMatched (now (triangles .entry)) n (now (s .entry)) (now (s .exit)) r ⌝ }
 {
     let mut v = 0;
     while v < n {
-        if match_at(triangles, s, v) {
-            return true;
+        if mark_leaving(triangles, s, v) {
+            return 5;
+        }
+        if match_arriving(triangles, s, v) {
+            if side_twice(v + 1, n, triangles, s) {
+                return 5;
+            }
+            return 6;
         }
         v += 1;
     }
-    false
+    0
 }

@@ -1,21 +1,21 @@
 -- Four tables of natural numbers in the lent scratch, and what a store does to them. Assumes nothing.
--- The tables of one vertex stand together, ten words for each vertex: six darts, its first dart, its number of darts, two marks. No two entries
--- share a word, whatever their indices, so a store to one table leaves the others as they are with no bound to be shown.
+-- A tenth of the words is one column: six columns hold the opposites of the darts, one the first darts of the vertices, one the numbers of their
+-- darts, one the even marks and one the odd ones. So each table stands in one piece. An index past its table reads as 0 and is not stored to.
 use Prim.Native.Nat.{ℕ, zero, _+_, _*_, _/_, _%_, _≤_, _<_, _^_}
 use native.Mathlib.Omega.{arith}
 use mathlib.Core.Path.{_≡_, refl, sym, fun-ext, _∙_}
 use mathlib.Core.Logic.{_≢_}
 use mathlib.Core.Bool.{Bool, true, false, cond}
 use mathlib.Core.List.{List, map}
-use lib.Dec.{T, eqb}
+use lib.Dec.{T, eqb, ltb}
 use lib.ListN.{length, getD, set, length-set, length-map, List·getD-map, List·getD-eq-default}
 use lib.Seq.{getD-set-same, getD-set-other, ext-getD}
-use native.Mathlib.Decide.{ℕ-discrete}
+use native.Mathlib.Decide.{ℕ-discrete, decLe}
 use lib.IntN.{ℤ, pos, negsuc, natAbs}
 use lib.Signed.{ltZ, nonNeg}
 use mir.Syntax.{w64}
 use mir.Val.{SFits}
-use borrow.Author.Tests.{le-ltb, eq-eqb, ne-eqb, eqb-true, eqb-false}
+use borrow.Author.Tests.{lt-ltb, le-ltb, eq-eqb, ne-eqb, eqb-true, eqb-false}
 
 -- ---- functions changed at one place
 
@@ -45,34 +45,23 @@ cell s i = value (getD s i (pos 0))
 
 -- ---- where the entries stand
 
-unfoldable pub dartAt : ℕ → ℕ
-dartAt d = 10 * (d / 6) + d % 6
+-- a tenth of scratch
+abbrev pub column : ℕ → ℕ
+column words = words / 10
 
-unfoldable pub headAt : ℕ → ℕ
-headAt v = 10 * v + 6
+-- the entries that there are
+abbrev pub dartIn : ℕ → ℕ → Type 0
+dartIn words d = d < 6 * column words
 
-unfoldable pub countAt : ℕ → ℕ
-countAt v = 10 * v + 7
+abbrev pub vertexIn : ℕ → ℕ → Type 0
+vertexIn words v = v < column words
 
-unfoldable pub markAt : ℕ → ℕ
-markAt t = 10 * (t / 2) + 8 + t % 2
+abbrev pub markIn : ℕ → ℕ → Type 0
+markIn words t = t < 2 * column words
 
--- for n vertices they stand in the first 10n words
-pub dart-in : (n d : ℕ) → d < 6 * n → dartAt d < 10 * n
-unfolding dartAt
-dart-in n d h = omega arith
-
-pub head-in : (n v : ℕ) → v < n → headAt v < 10 * n
-unfolding headAt
-head-in n v h = omega arith
-
-pub count-in : (n v : ℕ) → v < n → countAt v < 10 * n
-unfolding countAt
-count-in n v h = omega arith
-
-pub mark-in : (n t : ℕ) → t < 2 * n → markAt t < 10 * n
-unfolding markAt
-mark-in n t h = omega arith
+-- Marks of one kind, even or odd, stand together.
+unfoldable pub markAt : ℕ → ℕ → ℕ
+markAt c t = cond (eqb (t % 2) 0) (8 * c + t / 2) (9 * c + t / 2)
 
 -- ---- the tables
 
@@ -83,14 +72,21 @@ pub record Tables : Type 0 where
   pub count : ℕ → ℕ
   pub mark : ℕ → ℕ
 
--- what scratch holds
-unfoldable pub view : List ℤ → Tables
-view s = record {
-  op = λ d. cell s (dartAt d);
-  head = λ v. cell s (headAt v);
-  count = λ v. cell s (countAt v);
-  mark = λ t. cell s (markAt t);
+-- an entry of a table of `size` entries, the one of index i at place `at i`
+unfoldable pub entry : List ℤ → (ℕ → ℕ) → ℕ → ℕ → ℕ
+entry s at size i = cond (ltb i size) (cell s (at i)) 0
+
+-- what scratch holds, in columns of c words
+unfoldable pub columns : ℕ → List ℤ → Tables
+columns c s = record {
+  op = entry s (λ d. d) (6 * c);
+  head = entry s (λ v. 6 * c + v) c;
+  count = entry s (λ v. 7 * c + v) c;
+  mark = entry s (markAt c) (2 * c);
 }
+
+unfoldable pub view : List ℤ → Tables
+view s = columns (column (length s)) s
 
 unfoldable pub setOp : ℕ → ℕ → Tables → Tables
 setOp d x t = record { op = upd d x (t .op); head = t .head; count = t .count; mark = t .mark }
@@ -124,51 +120,125 @@ cell-other : (s : List ℤ) (i j x : ℕ) → j ≢ i → cell (set s i (pos x))
 unfolding cell
 cell-other s i j x h = rw (getD-set-other s i j (pos x) (pos 0) h)
 
--- a table whose entries stand at different places
-module _ (at : ℕ → ℕ) (apart : (i j : ℕ) → at i ≡ at j → i ≡ j) (s : List ℤ) (i x : ℕ) (h : at i < length s) where
-  cell-upd : (j : ℕ) → cell (set s (at i) (pos x)) (at j) ≡ upd i x (λ k. cell s (at k)) j
-  cell-upd j = go (eqb j i) refl
-    where
-      go : (b : Bool) → eqb j i ≡ b → cell (set s (at i) (pos x)) (at j) ≡ upd i x (λ k. cell s (at k)) j
-      go true e = let q = eqb-true j i e in rw (q, upd-same i x (λ k. cell s (at k))) (cell-same s (at i) x h)
-      go false e =
-          rw (upd-other i j x (λ k. cell s (at k)) (eqb-false j i e)) (cell-other s (at i) (at j) x (λ q. eqb-false j i e (apart j i q)))
+entry-in : (s : List ℤ) (at : ℕ → ℕ) (size i : ℕ) → i < size → entry s at size i ≡ cell s (at i)
+unfolding entry
+entry-in s at size i h = rw (lt-ltb i size h)
 
-pub view-op : (s : List ℤ) (d x : ℕ) → dartAt d < length s → view (set s (dartAt d) (pos x)) ≡ setOp d x (view s)
-unfolding view setOp dartAt headAt countAt markAt
-view-op s d x h = λ i. record {
-  op = fun-ext (cell-upd dartAt (λ a b e. omega arith) s d x h) i;
-  head = fun-ext (λ v. cell-other s (dartAt d) (headAt v) x (omega arith)) i;
-  count = fun-ext (λ v. cell-other s (dartAt d) (countAt v) x (omega arith)) i;
-  mark = fun-ext (λ t. cell-other s (dartAt d) (markAt t) x (omega arith)) i;
-}
+entry-past : (s : List ℤ) (at : ℕ → ℕ) (size i : ℕ) → size ≤ i → entry s at size i ≡ 0
+unfolding entry
+entry-past s at size i h = rw (le-ltb i size h)
 
-pub view-head : (s : List ℤ) (v x : ℕ) → headAt v < length s → view (set s (headAt v) (pos x)) ≡ setHead v x (view s)
-unfolding view setHead dartAt headAt countAt markAt
-view-head s v x h = λ i. record {
-  op = fun-ext (λ d. cell-other s (headAt v) (dartAt d) x (omega arith)) i;
-  head = fun-ext (cell-upd headAt (λ a b e. omega arith) s v x h) i;
-  count = fun-ext (λ w. cell-other s (headAt v) (countAt w) x (omega arith)) i;
-  mark = fun-ext (λ t. cell-other s (headAt v) (markAt t) x (omega arith)) i;
-}
+-- a store to a word that is no entry of the table
+entry-other : (s : List ℤ) (at : ℕ → ℕ) (size k x : ℕ) → ((j : ℕ) → j < size → at j ≢ k) → entry (set s k (pos x)) at size ≡ entry s at size
+entry-other s at size k x apart = fun-ext (λ j. elim (decLe size j) [
+  | yes q ↦ entry-past (set s k (pos x)) at size j q ∙ sym (entry-past s at size j q)
+  | no q ↦
+      let h : j < size = omega (arith, q) in
+      entry-in (set s k (pos x)) at size j h ∙ cell-other s k (at j) x (apart j h) ∙ sym (entry-in s at size j h)
+])
 
-pub view-count : (s : List ℤ) (v x : ℕ) → countAt v < length s → view (set s (countAt v) (pos x)) ≡ setCount v x (view s)
-unfolding view setCount dartAt headAt countAt markAt
-view-count s v x h = λ i. record {
-  op = fun-ext (λ d. cell-other s (countAt v) (dartAt d) x (omega arith)) i;
-  head = fun-ext (λ w. cell-other s (countAt v) (headAt w) x (omega arith)) i;
-  count = fun-ext (cell-upd countAt (λ a b e. omega arith) s v x h) i;
-  mark = fun-ext (λ t. cell-other s (countAt v) (markAt t) x (omega arith)) i;
-}
+-- a store to one of the table's entries, which stand at different places
+module _ (s : List ℤ) (at : ℕ → ℕ) (size i x : ℕ) (h : i < size) (low : at i < length s) (apart : (j : ℕ) → j < size → at j ≡ at i → j ≡ i) where
+  entry-same : (j : ℕ) → entry (set s (at i) (pos x)) at size j ≡ upd i x (entry s at size) j
+  entry-same j = elim (ℕ-discrete j i) [
+    | yes e ↦
+        rw (e, upd-same i x (entry s at size)) (entry-in (set s (at i) (pos x)) at size i h ∙ cell-same s (at i) x low)
+    | no e ↦
+        rw (upd-other i j x (entry s at size) e) (elim (decLe size j) [
+          | yes q ↦ entry-past (set s (at i) (pos x)) at size j q ∙ sym (entry-past s at size j q)
+          | no q ↦
+              let k : j < size = omega (arith, q) in
+              entry-in (set s (at i) (pos x)) at size j k ∙ cell-other s (at i) (at j) x (λ z. e (apart j k z)) ∙ sym (entry-in s at size j k)
+        ])
+  ]
 
-pub view-mark : (s : List ℤ) (t x : ℕ) → markAt t < length s → view (set s (markAt t) (pos x)) ≡ setMark t x (view s)
-unfolding view setMark dartAt headAt countAt markAt
-view-mark s t x h = λ i. record {
-  op = fun-ext (λ d. cell-other s (markAt t) (dartAt d) x (omega arith)) i;
-  head = fun-ext (λ w. cell-other s (markAt t) (headAt w) x (omega arith)) i;
-  count = fun-ext (λ w. cell-other s (markAt t) (countAt w) x (omega arith)) i;
-  mark = fun-ext (cell-upd markAt (λ a b e. omega arith) s t x h) i;
-}
+-- a mark stands in its column
+pub mark-even : (c t : ℕ) → t % 2 ≡ 0 → markAt c t ≡ 8 * c + t / 2
+unfolding markAt
+mark-even c t e = rw (eq-eqb (t % 2) 0 e)
+
+pub mark-odd : (c t : ℕ) → t % 2 ≢ 0 → markAt c t ≡ 9 * c + t / 2
+unfolding markAt
+mark-odd c t e = rw (ne-eqb (t % 2) 0 e)
+
+mark-range : (c t : ℕ) → t < 2 * c → (8 * c ≤ markAt c t) × (markAt c t < 10 * c)
+mark-range c t h = elim (ℕ-discrete (t % 2) 0) [
+  | yes e ↦ omega (arith, mark-even c t e)
+  | no e ↦ omega (arith, mark-odd c t e)
+]
+
+mark-apart : (c t u : ℕ) → t < 2 * c → u < 2 * c → markAt c t ≡ markAt c u → t ≡ u
+mark-apart c t u h k q = elim (ℕ-discrete (t % 2) 0) [
+  | yes e ↦ elim (ℕ-discrete (u % 2) 0) [
+    | yes f ↦ omega (arith, mark-even c t e, mark-even c u f)
+    | no f ↦ omega (arith, mark-even c t e, mark-odd c u f)
+  ]
+  | no e ↦ elim (ℕ-discrete (u % 2) 0) [
+    | yes f ↦ omega (arith, mark-odd c t e, mark-even c u f)
+    | no f ↦ omega (arith, e, f, mark-odd c t e, mark-odd c u f)
+  ]
+]
+
+module _ (s : List ℤ) (c : ℕ) (room : 10 * c ≤ length s) where
+  columns-op : (d x : ℕ) → d < 6 * c → columns c (set s d (pos x)) ≡ setOp d x (columns c s)
+  unfolding columns setOp
+  columns-op d x h = λ i. record {
+    op = fun-ext (entry-same s (λ j. j) (6 * c) d x h (omega arith) (λ j k e. e)) i;
+    head = entry-other s (λ v. 6 * c + v) c d x (λ j k. omega arith) i;
+    count = entry-other s (λ v. 7 * c + v) c d x (λ j k. omega arith) i;
+    mark = entry-other s (markAt c) (2 * c) d x (λ j k. omega (arith, mark-range c j k)) i;
+  }
+
+  columns-head : (v x : ℕ) → v < c → columns c (set s (6 * c + v) (pos x)) ≡ setHead v x (columns c s)
+  unfolding columns setHead
+  columns-head v x h = λ i. record {
+    op = entry-other s (λ d. d) (6 * c) (6 * c + v) x (λ j k. omega arith) i;
+    head = fun-ext (entry-same s (λ j. 6 * c + j) c v x h (omega arith) (λ j k e. omega arith)) i;
+    count = entry-other s (λ w. 7 * c + w) c (6 * c + v) x (λ j k. omega arith) i;
+    mark = entry-other s (markAt c) (2 * c) (6 * c + v) x (λ j k. omega (arith, mark-range c j k)) i;
+  }
+
+  columns-count : (v x : ℕ) → v < c → columns c (set s (7 * c + v) (pos x)) ≡ setCount v x (columns c s)
+  unfolding columns setCount
+  columns-count v x h = λ i. record {
+    op = entry-other s (λ d. d) (6 * c) (7 * c + v) x (λ j k. omega arith) i;
+    head = entry-other s (λ w. 6 * c + w) c (7 * c + v) x (λ j k. omega arith) i;
+    count = fun-ext (entry-same s (λ j. 7 * c + j) c v x h (omega arith) (λ j k e. omega arith)) i;
+    mark = entry-other s (markAt c) (2 * c) (7 * c + v) x (λ j k. omega (arith, mark-range c j k)) i;
+  }
+
+  columns-mark : (t x : ℕ) → t < 2 * c → columns c (set s (markAt c t) (pos x)) ≡ setMark t x (columns c s)
+  unfolding columns setMark
+  columns-mark t x h = λ i. record {
+    op = entry-other s (λ d. d) (6 * c) (markAt c t) x (λ j k. omega (arith, mark-range c t h)) i;
+    head = entry-other s (λ w. 6 * c + w) c (markAt c t) x (λ j k. omega (arith, mark-range c t h)) i;
+    count = entry-other s (λ w. 7 * c + w) c (markAt c t) x (λ j k. omega (arith, mark-range c t h)) i;
+    mark = fun-ext (entry-same s (markAt c) (2 * c) t x h (omega (arith, mark-range c t h)) (λ j k e. mark-apart c j t k h e)) i;
+  }
+
+module _ (s : List ℤ) where
+  pub view-op : (d x : ℕ) → dartIn (length s) d → view (set s d (pos x)) ≡ setOp d x (view s)
+  unfolding view
+  view-op d x h = rw (length-set s d (pos x)) (columns-op s (length s / 10) (omega arith) d x h)
+
+  pub view-head : (v x : ℕ) → vertexIn (length s) v → view (set s (6 * column (length s) + v) (pos x)) ≡ setHead v x (view s)
+  unfolding view
+  view-head v x h = rw (length-set s (6 * (length s / 10) + v) (pos x)) (columns-head s (length s / 10) (omega arith) v x h)
+
+  pub view-count : (v x : ℕ) → vertexIn (length s) v → view (set s (7 * column (length s) + v) (pos x)) ≡ setCount v x (view s)
+  unfolding view
+  view-count v x h = rw (length-set s (7 * (length s / 10) + v) (pos x)) (columns-count s (length s / 10) (omega arith) v x h)
+
+  pub view-mark : (t x : ℕ) → markIn (length s) t → view (set s (markAt (column (length s)) t) (pos x)) ≡ setMark t x (view s)
+  unfolding view
+  view-mark t x h = rw (length-set s (markAt (length s / 10) t) (pos x)) (columns-mark s (length s / 10) (omega arith) t x h)
+
+-- the word of an entry that there is
+pub dart-place : (words d : ℕ) → dartIn words d → d < words
+dart-place words d h = omega arith
+
+pub mark-place : (words t : ℕ) → markIn words t → markAt (column words) t < words
+mark-place words t h = omega (arith, mark-range (words / 10) t h)
 
 -- ---- zeros
 
@@ -176,14 +246,24 @@ cell-blank : (s : List ℤ) (i : ℕ) → cell (map (λ _. pos 0) s) i ≡ 0
 unfolding cell value
 cell-blank s i = rw (List·getD-map (λ (_ : ℤ). pos 0) s i (pos 0))
 
-pub view-blank : (s : List ℤ) → view (map (λ _. pos 0) s) ≡ blank
-unfolding view blank
-view-blank s = λ i. record {
-  op = fun-ext (λ d. cell-blank s (dartAt d)) i;
-  head = fun-ext (λ v. cell-blank s (headAt v)) i;
-  count = fun-ext (λ v. cell-blank s (countAt v)) i;
-  mark = fun-ext (λ t. cell-blank s (markAt t)) i;
+entry-blank : (s : List ℤ) (at : ℕ → ℕ) (size : ℕ) → entry (map (λ _. pos 0) s) at size ≡ (λ _. 0)
+entry-blank s at size = fun-ext (λ i. elim (decLe size i) [
+  | yes q ↦ entry-past (map (λ _. pos 0) s) at size i q
+  | no q ↦ entry-in (map (λ _. pos 0) s) at size i (omega (arith, q)) ∙ cell-blank s (at i)
+])
+
+columns-blank : (c : ℕ) (s : List ℤ) → columns c (map (λ _. pos 0) s) ≡ blank
+unfolding columns blank
+columns-blank c s = λ i. record {
+  op = entry-blank s (λ d. d) (6 * c) i;
+  head = entry-blank s (λ v. 6 * c + v) c i;
+  count = entry-blank s (λ v. 7 * c + v) c i;
+  mark = entry-blank s (markAt c) (2 * c) i;
 }
+
+pub view-blank : (s : List ℤ) → view (map (λ _. pos 0) s) ≡ blank
+unfolding view
+view-blank s = columns-blank (column (length (map (λ _. pos 0) s))) s
 
 -- ---- a word as the code reads it
 
@@ -202,27 +282,40 @@ unfolding value
 value-small (pos k) h = h .sfits
 value-small (negsuc k) h = omega arith
 
--- past the end of scratch
+-- an entry as the code reads it: its word, or 0 where there is none
 
-cell-past : (s : List ℤ) (i : ℕ) → length s ≤ i → cell s i ≡ 0
-unfolding cell value
-cell-past s i h = rw (List·getD-eq-default s (pos 0) h)
+module _ (s : List ℤ) where
+  pub op-in : (d : ℕ) → dartIn (length s) d → view s .op d ≡ cell s d
+  unfolding view columns
+  op-in d h = entry-in s (λ j. j) (6 * (length s / 10)) d h
 
-pub op-past : (s : List ℤ) (d : ℕ) → length s ≤ d → 0 ≡ view s .op d
-unfolding view dartAt
-op-past s d h = sym (cell-past s (dartAt d) (omega arith))
+  pub op-past : (d : ℕ) → 6 * column (length s) ≤ d → 0 ≡ view s .op d
+  unfolding view columns
+  op-past d h = sym (entry-past s (λ j. j) (6 * (length s / 10)) d h)
 
-pub head-past : (s : List ℤ) (v : ℕ) → length s ≤ v → 0 ≡ view s .head v
-unfolding view headAt
-head-past s v h = sym (cell-past s (headAt v) (omega arith))
+  pub head-in : (v : ℕ) → vertexIn (length s) v → view s .head v ≡ cell s (6 * column (length s) + v)
+  unfolding view columns
+  head-in v h = entry-in s (λ j. 6 * (length s / 10) + j) (length s / 10) v h
 
-pub count-past : (s : List ℤ) (v : ℕ) → length s ≤ v → 0 ≡ view s .count v
-unfolding view countAt
-count-past s v h = sym (cell-past s (countAt v) (omega arith))
+  pub head-past : (v : ℕ) → column (length s) ≤ v → 0 ≡ view s .head v
+  unfolding view columns
+  head-past v h = sym (entry-past s (λ j. 6 * (length s / 10) + j) (length s / 10) v h)
 
-pub mark-past : (s : List ℤ) (t : ℕ) → length s ≤ t → 0 ≡ view s .mark t
-unfolding view markAt
-mark-past s t h = sym (cell-past s (markAt t) (omega arith))
+  pub count-in : (v : ℕ) → vertexIn (length s) v → view s .count v ≡ cell s (7 * column (length s) + v)
+  unfolding view columns
+  count-in v h = entry-in s (λ j. 7 * (length s / 10) + j) (length s / 10) v h
+
+  pub count-past : (v : ℕ) → column (length s) ≤ v → 0 ≡ view s .count v
+  unfolding view columns
+  count-past v h = sym (entry-past s (λ j. 7 * (length s / 10) + j) (length s / 10) v h)
+
+  pub mark-in : (t : ℕ) → markIn (length s) t → view s .mark t ≡ cell s (markAt (column (length s)) t)
+  unfolding view columns
+  mark-in t h = entry-in s (markAt (length s / 10)) (2 * (length s / 10)) t h
+
+  pub mark-past : (t : ℕ) → 2 * column (length s) ≤ t → 0 ≡ view s .mark t
+  unfolding view columns
+  mark-past t h = sym (entry-past s (markAt (length s / 10)) (2 * (length s / 10)) t h)
 
 -- ---- the loop that clears: `i` words are zero
 

@@ -1,12 +1,12 @@
 // The lent slices, read and written one entry at a time: corners of triangles, and the four tables that scratch holds.
-// Reading is total: past the end, and below zero, a word reads as 0.
+// Reading is total: an index past its table, and a word below zero, read as 0.
 ghost use mathlib.Core.Path.{_≡_};
 ghost use mathlib.Core.List.{map};
 ghost use Prim.Native.Nat.{_*_, _<_, _≤_, _^_};
 ghost use lib.ListN.{length, set};
 ghost use lib.IntN.{pos};
-ghost use Rattle.definitions.specs.Mesh.{org, tip, next, prev, same, opposite};
-ghost use Rattle.tables.specs.Tables.{value, cell, dartAt, headAt, countAt, markAt, view, setOp, setHead, setCount, setMark};
+ghost use Rattle.definitions.specs.Mesh.{org, tip, next, prev};
+ghost use Rattle.tables.specs.Tables.{value, cell, column, dartIn, vertexIn, markIn, markAt, view, setOp, setHead, setCount, setMark};
 
 fn wide(x: u16) -> usize
     ensures { λ r. ⌜ (r ≡ x) × (r < 65536) ⌝ }
@@ -31,14 +31,14 @@ pub fn after(d: usize) -> usize
     requires { ⌜ d < 2 ^ 63 ⌝ }
     ensures { λ r. ⌜ r ≡ next d ⌝ }
 {
-    3 * (d / 3) + (d % 3 + 1) % 3
+    if d % 3 == 2 { d - 2 } else { d + 1 }
 }
 
 pub fn before(d: usize) -> usize
     requires { ⌜ d < 2 ^ 63 ⌝ }
     ensures { λ r. ⌜ r ≡ prev d ⌝ }
 {
-    3 * (d / 3) + (d % 3 + 2) % 3
+    if d % 3 == 0 { d + 2 } else { d - 1 }
 }
 
 // the vertex that dart d leads to
@@ -58,9 +58,10 @@ fn natural(x: i64) -> usize
 }
 
 fn peek(s: &[i64], i: usize) -> usize
+    requires { ⌜ i < length (now s) ⌝ }
     ensures { λ r. ⌜ (r ≡ cell (now (s .entry)) i) × (r < 2 ^ 63) ⌝ }
 {
-    if i < s.len() { natural(s[i]) } else { 0 }
+    natural(s[i])
 }
 
 fn poke(s: &mut [i64], i: usize, x: usize)
@@ -70,69 +71,80 @@ fn poke(s: &mut [i64], i: usize, x: usize)
     s[i] = x as i64;
 }
 
-// the tables
+// the word of mark t, in columns of c words
+fn mark_at(c: usize, t: usize) -> usize
+    requires { ⌜ (t < 2 * c) × (10 * c < 2 ^ 64) ⌝ }
+    ensures { λ r. ⌜ r ≡ markAt c t ⌝ }
+{
+    if t % 2 == 0 {
+        8 * c + t / 2
+    } else {
+        9 * c + t / 2
+    }
+}
+
+// the tables, in columns of c words
 pub fn get_op(s: &[i64], d: usize) -> usize
     ensures is { λ r. ⌜ r ≡ view (now (s .entry)) .op d ⌝ }
     ensures small { λ r. ⌜ r < 2 ^ 63 ⌝ }
 {
-    if d < s.len() {
-        peek(s, 10 * (d / 6) + d % 6)
-    } else {
-        0
-    }
+    let c = s.len() / 10;
+    if d < 6 * c { peek(s, d) } else { 0 }
 }
 
 pub fn get_head(s: &[i64], v: usize) -> usize
     ensures is { λ r. ⌜ r ≡ view (now (s .entry)) .head v ⌝ }
     ensures small { λ r. ⌜ r < 2 ^ 63 ⌝ }
 {
-    if v < s.len() { peek(s, 10 * v + 6) } else { 0 }
+    let c = s.len() / 10;
+    if v < c { peek(s, 6 * c + v) } else { 0 }
 }
 
 pub fn get_count(s: &[i64], v: usize) -> usize
     ensures is { λ r. ⌜ r ≡ view (now (s .entry)) .count v ⌝ }
     ensures small { λ r. ⌜ r < 2 ^ 63 ⌝ }
 {
-    if v < s.len() { peek(s, 10 * v + 7) } else { 0 }
+    let c = s.len() / 10;
+    if v < c { peek(s, 7 * c + v) } else { 0 }
 }
 
 pub fn get_mark(s: &[i64], t: usize) -> usize
     ensures is { λ r. ⌜ r ≡ view (now (s .entry)) .mark t ⌝ }
     ensures small { λ r. ⌜ r < 2 ^ 63 ⌝ }
 {
-    if t < s.len() {
-        peek(s, 10 * (t / 2) + 8 + t % 2)
-    } else {
-        0
-    }
+    let c = s.len() / 10;
+    if t < 2 * c { peek(s, mark_at(c, t)) } else { 0 }
 }
 
 pub fn set_op(s: &mut [i64], d: usize, x: usize)
-    requires { ⌜ (dartAt d < length (now s)) × (x < 2 ^ 63) ⌝ }
+    requires { ⌜ (dartIn (length (now s)) d) × (x < 2 ^ 63) ⌝ }
     ensures { λ r. ⌜ view (now (s .exit)) ≡ setOp d x (view (now (s .entry))) ⌝ }
 {
-    poke(s, 10 * (d / 6) + d % 6, x);
+    poke(s, d, x);
 }
 
 pub fn set_head(s: &mut [i64], v: usize, x: usize)
-    requires { ⌜ (headAt v < length (now s)) × (x < 2 ^ 63) ⌝ }
+    requires { ⌜ (vertexIn (length (now s)) v) × (x < 2 ^ 63) ⌝ }
     ensures { λ r. ⌜ view (now (s .exit)) ≡ setHead v x (view (now (s .entry))) ⌝ }
 {
-    poke(s, 10 * v + 6, x);
+    let c = s.len() / 10;
+    poke(s, 6 * c + v, x);
 }
 
 pub fn set_count(s: &mut [i64], v: usize, x: usize)
-    requires { ⌜ (countAt v < length (now s)) × (x < 2 ^ 63) ⌝ }
+    requires { ⌜ (vertexIn (length (now s)) v) × (x < 2 ^ 63) ⌝ }
     ensures { λ r. ⌜ view (now (s .exit)) ≡ setCount v x (view (now (s .entry))) ⌝ }
 {
-    poke(s, 10 * v + 7, x);
+    let c = s.len() / 10;
+    poke(s, 7 * c + v, x);
 }
 
 pub fn set_mark(s: &mut [i64], t: usize, x: usize)
-    requires { ⌜ (markAt t < length (now s)) × (x < 2 ^ 63) ⌝ }
+    requires { ⌜ (markIn (length (now s)) t) × (x < 2 ^ 63) ⌝ }
     ensures { λ r. ⌜ view (now (s .exit)) ≡ setMark t x (view (now (s .entry))) ⌝ }
 {
-    poke(s, 10 * (t / 2) + 8 + t % 2, x);
+    let c = s.len() / 10;
+    poke(s, mark_at(c, t), x);
 }
 
 // zeros in every word
@@ -143,36 +155,5 @@ pub fn clear(s: &mut [i64])
     while i < s.len() {
         s[i] = 0;
         i += 1;
-    }
-}
-
-// Two darts have the same side; opposite sides.
-pub fn same_side(triangles: &[u16], d: usize, e: usize) -> bool
-    requires { ⌜ (d < 2 ^ 63) × (e < 2 ^ 63) ⌝ }
-    ensures { λ r. ⌜ r ≡ same (now (triangles .entry)) d e ⌝ }
-{
-    let a = vertex(triangles, d);
-    let b = vertex(triangles, e);
-    if a == b {
-        let p = end(triangles, d);
-        let q = end(triangles, e);
-        p == q
-    } else {
-        false
-    }
-}
-
-pub fn opposite_sides(triangles: &[u16], d: usize, e: usize) -> bool
-    requires { ⌜ (d < 2 ^ 63) × (e < 2 ^ 63) ⌝ }
-    ensures { λ r. ⌜ r ≡ opposite (now (triangles .entry)) d e ⌝ }
-{
-    let a = vertex(triangles, e);
-    let b = end(triangles, d);
-    if a == b {
-        let p = end(triangles, e);
-        let q = vertex(triangles, d);
-        p == q
-    } else {
-        false
     }
 }

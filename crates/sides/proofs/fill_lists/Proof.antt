@@ -14,7 +14,7 @@ abbrev μ-loop : tie.MeasureT-loop
 μ-loop triangles s₀ d₀ s d = d
 
 loop-holds : tie.Need-loop-holds Inv-loop μ-loop
-loop-holds c = record { long = refl; low = omega arith; count = c .before .pre .count; rest = refl }
+loop-holds c = record { long = refl; low = omega arith; count = c .before .pre .count; heads = c .before .pre .heads; rest = refl }
 
 sub-d : tie.Need-sub-d Inv-loop μ-loop
 sub-d c = omega arith
@@ -27,6 +27,7 @@ put-first-requires c κs =
       space = rw (I .long) (c .before .before .before .before .pre .space);
       dart = omega (arith, I .low, c .before .loop-test .taken);
       count = rw z (I .count);
+      heads = I .heads;
       few = c .before .before .before .before .pre .few;
     }
 

@@ -1,18 +1,17 @@
--- `sides::match_arriving` meets its contract. The loop's invariant: the walk from d on gives what the whole walk gives. Assumes nothing.
+-- `sides::match_arriving` meets its contract. The loop's invariant: the walk from e on gives what the whole walk gives. Assumes nothing.
 use Prim.Native.Nat.{_-_}
 use native.Mathlib.Omega.{arith}
-use mathlib.Core.Path.{sym, _∙_}
-use Rattle.tables.specs.Tables.{view}
-use Rattle.checkwork.specs.Join.{meets, meets-below}
+use mathlib.Core.Path.{_∙_}
+use Rattle.sides.specs.Room.{prev-small}
 use Rattle.sides.specs.Turns.{Tying, tying-start, tying-next, tied-lacks, tied-none}
 use Rattle.sides.proofs.match_arriving.Statement.{statement}
 use Rattle.sides.proofs.match_arriving.Tie as tie
 
 abbrev Inv-loop : tie.InvT-loop
-Inv-loop triangles s₀ v k h d₀ i₀ s d i = Tying triangles s₀ k h s d i
+Inv-loop triangles s₀ v k h e₀ i₀ s e i = Tying triangles s₀ v k h s e i
 
 abbrev μ-loop : tie.MeasureT-loop
-μ-loop triangles s₀ v k h d₀ i₀ s d i = k - i
+μ-loop triangles s₀ v k h e₀ i₀ s e i = k - i
 
 get-count-requires : tie.Need-get-count-requires Inv-loop μ-loop
 get-count-requires c κs = tt
@@ -20,48 +19,44 @@ get-count-requires c κs = tt
 get-head-requires : tie.Need-get-head-requires Inv-loop μ-loop
 get-head-requires c κs = tt
 
+before-requires : tie.Need-before-requires Inv-loop μ-loop
+before-requires c κs = c .get-head .ensures .1
+
 loop-holds : tie.Need-loop-holds Inv-loop μ-loop
-loop-holds c = tying-start (c .before .before .before .before .before .args .triangles .now) (c .before .before .before .before .before .args .s .now) (c .before .before .get-count .result) (c .get-head .result) (c .get-head .ensures .1)
+loop-holds c = tying-start (c .before .before .before .before .before .before .args .triangles .now) (c .before .before .before .before .before .before .args .s .now) (c .before .before .before .before .before .before .args .v) (c .before .before .before .get-count .result) (c .before .get-head .result) (c .before2 .result) (c .before2 .ensures)
+    (prev-small (c .before .get-head .result) (c .before2 .result) (c .before2 .ensures) (omega (arith, c .before .get-head .ensures .0, c .before .before .before .before .before .before .pre .1)))
 
-finds-opposite-requires : tie.Need-finds-opposite-requires Inv-loop μ-loop
-finds-opposite-requires c κs = c .before .before .loop .inv .small
+get-op-requires : tie.Need-get-op-requires Inv-loop μ-loop
+get-op-requires c κs = tt
 
-store-opposite-requires : tie.Need-store-opposite-requires Inv-loop μ-loop
-store-opposite-requires c κs =
-    let met = sym (c .before .before .finds-opposite .ensures) ∙ c .before .if1 .taken in
-    let low = meets-below (c .before .before .before .before .before .before .before .before .before .before .before .args .triangles .now) (view (c .before .before .before .before .before .loop .s) .mark) (c .before .before .before .before .before .loop .d) met in
-    (c .before .before .before .before .before .loop .inv .small, omega (arith, c .before .before .before .before .before .before .before .before .before .before .before .pre .link (c .before .before .before .before .before .loop .d) low, c .before .before .before .before .before .loop .inv .long))
+meet-opposite-requires : tie.Need-meet-opposite-requires Inv-loop μ-loop
+meet-opposite-requires c κs = rw (c .before .before .before .before .loop .inv .long) (c .before .before .before .before .before .before .before .before .before .before .before .pre .0)
 
 add-i : tie.Need-add-i Inv-loop μ-loop
-add-i c = omega (arith, c .before .before .before .before .before .before .loop-test .taken, c .before .before .before .before .before .before .before .before .before .before .get-count .ensures .1)
+add-i c = omega (arith, c .before .before .before .before .before .before .loop-test .taken, c .before .before .before .before .before .before .before .before .before .before .before .get-count .ensures .1)
 
 loop-less : tie.Need-loop-less Inv-loop μ-loop
 loop-less c = omega (arith, c .before .before .before .before .before .before .loop-test .taken)
 
 loop-again : tie.Need-loop-again Inv-loop μ-loop
-loop-again c =
-    tying-next (c .before .before .before .before .before .before .before .before .before .before .before .before .before .args .triangles .now) (c .before .before .before .before .before .before .before .before .before .before .before .before .before .args .s .now) (c .before .before .before .before .before .before .before .before .before .before .get-count .result) (c .before .before .before .before .before .before .before .before .get-head .result)
-    (c .before .before .before .before .before .before .before .loop .s) (c .before .store-opposite .last .1 .0) (c .before .before .before .before .before .before .before .loop .d) (c .before .store-opposite .result) (c .before .before .before .before .before .before .before .loop .i)
-    (c .before .before .before .before .before .before .loop-test .taken) (sym (c .before .before .before .before .finds-opposite .ensures) ∙ c .before .before .before .if1 .taken) (c .before .store-opposite .kept .1 .0)
-    (c .before .store-opposite .ensures .1 .1) (c .before .store-opposite .ensures .0) (c .before .store-opposite .ensures .1 .0) (c .before .before .before .before .before .before .before .loop .inv)
+loop-again c = tying-next (c .before .before .before .before .before .before .before .before .before .before .before .before .before .before .args .triangles .now) (c .before .before .before .before .before .before .before .before .before .before .before .before .before .before .args .s .now) (c .before .before .before .before .before .before .before .before .before .before .before .before .before .before .args .v) (c .before .before .before .before .before .before .before .before .before .before .before .get-count .result) (c .before .before .before .before .before .before .before .before .before .get-head .result)
+    (c .before .before .before .before .before .before .before .loop .s) (c .before .before .meet-opposite .last .1 .0) (c .before .before .before .before .before .before .before .loop .e) (c .before .before .before .before .get-op .result) (c .before .before .before .before .before .before .before .loop .i) (c .before .before .meet-opposite .result)
+    (c .before .before .before .before .before .before .loop-test .taken) (c .if1 .taken) (c .before .before .meet-opposite .kept .1 .0) (c .before .before .meet-opposite .ensures) (c .before .before .before .before .get-op .ensures .0) (c .before .before .before .before .get-op .ensures .1) (c .before .before .before .before .before .before .before .loop .inv)
 
 same-length : tie.Need-same-length Inv-loop μ-loop
-same-length c = c .before .before .before .before .loop .inv .long
+same-length c = c .before .before .meet-opposite .kept .1 .0 ∙ c .before .before .before .before .before .before .before .loop .inv .long
 
 returns : tie.Need-returns Inv-loop μ-loop
-returns c =
-    tied-lacks (c .before .before .before .before .before .before .before .before .before .before .args .triangles .now) (c .before .before .before .before .before .before .before .before .before .before .args .s .now) (c .before .before .before .before .before .before .before .before .before .before .args .v) (c .before .before .before .before .before .before .before .get-count .result) (c .before .before .before .before .before .get-head .result)
-    (c .before .before .before .before .loop .s) (c .before .before .before .before .loop .d) (c .before .before .before .before .loop .i) (c .before .before .before .before .before .before .before .get-count .ensures .0) (c .before .before .before .before .before .get-head .ensures .0)
-    (c .before .before .before .loop-test .taken) (sym (c .before .finds-opposite .ensures) ∙ c .if1 .left) (c .before .before .before .before .loop .inv)
+returns c = tied-lacks (c .before .before .before .before .before .before .before .before .before .before .before .before .before .before .args .triangles .now) (c .before .before .before .before .before .before .before .before .before .before .before .before .before .before .args .s .now) (c .before .before .before .before .before .before .before .before .before .before .before .before .before .before .args .v) (c .before .before .before .before .before .before .before .before .before .before .before .get-count .result) (c .before .before .before .before .before .before .before .before .before .get-head .result)
+    (c .before .before .before .before .before .before .before .loop .s) (c .before .before .meet-opposite .last .1 .0) (c .before .before .before .before .before .before .before .loop .e) (c .before .before .before .before .before .before .before .loop .i) (c .before .before .meet-opposite .result) (c .before .before .before .before .before .before .before .before .before .before .before .get-count .ensures .0) (c .before .before .before .before .before .before .before .before .before .get-head .ensures .0)
+    (c .before .before .before .before .before .before .loop-test .taken) (c .if1 .left) (c .before .before .meet-opposite .ensures) (c .before .before .before .before .before .before .before .loop .inv)
 
 same-length-2 : tie.Need-same-length-2 Inv-loop μ-loop
 same-length-2 c = c .before .loop .inv .long
 
 returns-2 : tie.Need-returns-2 Inv-loop μ-loop
-returns-2 c =
-    tied-none (c .before .before .before .before .before .before .before .args .triangles .now) (c .before .before .before .before .before .before .before .args .s .now) (c .before .before .before .before .before .before .before .args .v) (c .before .before .before .before .get-count .result) (c .before .before .get-head .result)
-    (c .before .loop .s) (c .before .loop .d) (c .before .loop .i) (c .before .before .before .before .get-count .ensures .0) (c .before .before .get-head .ensures .0)
-    (c .loop-test .left) (c .before .loop .inv)
+returns-2 c = tied-none (c .before .before .before .before .before .before .before .before .args .triangles .now) (c .before .before .before .before .before .before .before .before .args .s .now) (c .before .before .before .before .before .before .before .before .args .v) (c .before .before .before .before .before .get-count .result) (c .before .before .before .get-head .result)
+    (c .before .loop .s) (c .before .loop .e) (c .before .loop .i) (c .before .before .before .before .before .get-count .ensures .0) (c .before .before .before .get-head .ensures .0) (c .loop-test .left) (c .before .loop .inv)
 
 pub match-arriving-spec : {M : Type 1} → statement M
 match-arriving-spec =
@@ -71,9 +66,10 @@ match-arriving-spec =
     μ-loop
     get-count-requires
     get-head-requires
+    before-requires
     loop-holds
-    finds-opposite-requires
-    store-opposite-requires
+    get-op-requires
+    meet-opposite-requires
     add-i
     loop-less
     loop-again

@@ -2,7 +2,9 @@
 use Prim.Native.Nat.{_-_}
 use native.Mathlib.Omega.{arith}
 use mathlib.Core.Path.{_∙_}
-use Rattle.sides.specs.Turns.{Matching, matching-start, matching-lacks, matching-next, matching-none, matched-as}
+use Rattle.tables.specs.Tables.{view}
+use Rattle.sides.specs.Room.{ready-at, ready-kept}
+use Rattle.sides.specs.Turns.{mark-heads, op-heads, both-heads, Matching, matching-start, matching-twice, matching-next, matching-later, matching-lacks, matching-none}
 use Rattle.sides.proofs.match_sides.Statement.{statement}
 use Rattle.sides.proofs.match_sides.Tie as tie
 
@@ -15,37 +17,64 @@ abbrev μ-loop : tie.MeasureT-loop
 loop-holds : tie.Need-loop-holds Inv-loop μ-loop
 loop-holds c = matching-start (c .before .args .triangles .now) (c .before .args .n) (c .before .args .s .now)
 
-match-at-requires : tie.Need-match-at-requires Inv-loop μ-loop
-match-at-requires c κs = rw (c .before .before .loop .inv .long) (c .before .before .before .before .pre)
+mark-leaving-requires : tie.Need-mark-leaving-requires Inv-loop μ-loop
+mark-leaving-requires c κs = (
+  ready-at (c .before .before .loop .s) (c .before .before .loop .v) (c .before .before .before .before .pre) (c .before .loop-test .taken) (c .before .before .loop .inv .long),
+  rw (both-heads (c .before .before .before .before .args .s .now) (c .before .before .loop .s) (view (c .before .before .loop .s) .op) (view (c .before .before .loop .s) .mark) (c .before .before .loop .inv .same)) (c .before .before .before .before .pre .heads (c .before .before .loop .v)),
+)
 
 same-length : tie.Need-same-length Inv-loop μ-loop
-same-length c = c .before .before .match-at .kept .1 .0 ∙ c .before .before .before .before .before .loop .inv .long
+same-length c = c .before .before .mark-leaving .kept .1 .0 ∙ c .before .before .before .before .before .loop .inv .long
 
 returns : tie.Need-returns Inv-loop μ-loop
-returns c =
-    let M = matched-as (c .before .before .before .before .before .before .before .args .triangles .now) (c .before .before .before .before .before .loop .s) (c .before .before .match-at .last .1 .0) (c .before .before .before .before .before .loop .v) (c .before .before .match-at .result) (c .if1 .taken) (c .before .before .match-at .ensures) in
-    matching-lacks (c .before .before .before .before .before .before .before .args .triangles .now) (c .before .before .before .before .before .before .before .args .n) (c .before .before .before .before .before .before .before .args .s .now) (c .before .before .before .before .before .loop .s) (c .before .before .match-at .last .1 .0) (c .before .before .before .before .before .loop .v)
-    (c .before .before .before .before .loop-test .taken) (c .before .before .before .before .before .loop .inv) M
+returns c = matching-twice (c .before .before .before .before .before .before .before .args .triangles .now) (c .before .before .before .before .before .before .before .args .n) (c .before .before .before .before .before .before .before .args .s .now) (c .before .before .before .before .before .loop .s) (c .before .before .mark-leaving .last .1 .0) (c .before .before .before .before .before .loop .v) (c .before .before .before .before .loop-test .taken) (c .before .before .before .before .before .loop .inv)
+    (c .before .before .mark-leaving .result) (c .if1 .taken) (c .before .before .mark-leaving .last .1 .0) (c .before .before .mark-leaving .ensures)
 
-add-v : tie.Need-add-v Inv-loop μ-loop
-add-v c = omega (arith, c .before .before .before .before .loop-test .taken)
+match-arriving-requires : tie.Need-match-arriving-requires Inv-loop μ-loop
+match-arriving-requires c κs = (
+  ready-at (c .before .before .before .mark-leaving .last .1 .0) (c .before .before .before .before .before .before .loop .v) (c .before .before .before .before .before .before .before .before .pre) (c .before .before .before .before .before .loop-test .taken) (c .before .before .before .mark-leaving .kept .1 .0 ∙ c .before .before .before .before .before .before .loop .inv .long),
+  rw (mark-heads (c .before .before .before .before .before .before .loop .s) (c .before .before .before .mark-leaving .last .1 .0) _ (c .before .before .before .mark-leaving .ensures .same), both-heads (c .before .before .before .before .before .before .before .before .args .s .now) (c .before .before .before .before .before .before .loop .s) (view (c .before .before .before .before .before .before .loop .s) .op) (view (c .before .before .before .before .before .before .loop .s) .mark) (c .before .before .before .before .before .before .loop .inv .same)) (c .before .before .before .before .before .before .before .before .pre .heads (c .before .before .before .before .before .before .loop .v)),
+)
 
-loop-less : tie.Need-loop-less Inv-loop μ-loop
-loop-less c = omega (arith, c .before .before .before .before .loop-test .taken)
+add-side-twice : tie.Need-add-side-twice Inv-loop μ-loop
+add-side-twice c = omega (arith, c .before .before .before .before .before .before .before .before .loop-test .taken)
 
-loop-again : tie.Need-loop-again Inv-loop μ-loop
-loop-again c =
-    let M = matched-as (c .before .before .before .before .before .before .before .args .triangles .now) (c .before .before .before .before .before .loop .s) (c .before .before .match-at .last .1 .0) (c .before .before .before .before .before .loop .v) (c .before .before .match-at .result) (c .if1 .left) (c .before .before .match-at .ensures) in
-    matching-next (c .before .before .before .before .before .before .before .args .triangles .now) (c .before .before .before .before .before .before .before .args .n) (c .before .before .before .before .before .before .before .args .s .now) (c .before .before .before .before .before .loop .s) (c .before .before .match-at .last .1 .0) (c .before .before .before .before .before .loop .v)
-    (c .before .before .before .before .loop-test .taken) (c .before .before .before .before .before .loop .inv) (c .before .before .match-at .kept .1 .0) M
+side-twice-requires : tie.Need-side-twice-requires Inv-loop μ-loop
+side-twice-requires c κs = ready-kept (c .before .before .before .match-arriving .last .1 .0) (c .before .before .before .before .before .before .before .before .before .before .before .before .pre) (c .before .before .before .match-arriving .kept .1 .0 ∙ c .before .before .before .before .before .before .before .mark-leaving .kept .1 .0 ∙ c .before .before .before .before .before .before .before .before .before .before .loop .inv .long)
+    (op-heads (c .before .before .before .before .before .before .before .mark-leaving .last .1 .0) (c .before .before .before .match-arriving .last .1 .0) _ (c .before .before .before .match-arriving .ensures .same) ∙ mark-heads (c .before .before .before .before .before .before .before .before .before .before .loop .s) (c .before .before .before .before .before .before .before .mark-leaving .last .1 .0) _ (c .before .before .before .before .before .before .before .mark-leaving .ensures .same) ∙ both-heads (c .before .before .before .before .before .before .before .before .before .before .before .before .args .s .now) (c .before .before .before .before .before .before .before .before .before .before .loop .s) (view (c .before .before .before .before .before .before .before .before .before .before .loop .s) .op) (view (c .before .before .before .before .before .before .before .before .before .before .loop .s) .mark) (c .before .before .before .before .before .before .before .before .before .before .loop .inv .same))
 
 same-length-2 : tie.Need-same-length-2 Inv-loop μ-loop
-same-length-2 c = c .before .loop .inv .long
+same-length-2 c = c .before .before .side-twice .kept .1 .1 .1 .0 ∙ c .before .before .before .before .before .before .match-arriving .kept .1 .0 ∙ c .before .before .before .before .before .before .before .before .before .before .mark-leaving .kept .1 .0 ∙ c .before .before .before .before .before .before .before .before .before .before .before .before .before .loop .inv .long
 
 returns-2 : tie.Need-returns-2 Inv-loop μ-loop
-returns-2 c =
-    matching-none (c .before .before .before .args .triangles .now) (c .before .before .before .args .n) (c .before .before .before .args .s .now) (c .before .loop .s) (c .before .loop .v)
-    (c .loop-test .left) (c .before .loop .inv)
+returns-2 c = matching-later (c .before .before .before .before .before .before .before .before .before .before .before .before .before .before .before .args .triangles .now) (c .before .before .before .before .before .before .before .before .before .before .before .before .before .before .before .args .n) (c .before .before .before .before .before .before .before .before .before .before .before .before .before .before .before .args .s .now) (c .before .before .before .before .before .before .before .before .before .before .before .before .before .loop .s) (c .before .before .before .before .before .before .before .before .before .before .mark-leaving .last .1 .0) (c .before .before .before .before .before .before .before .before .before .before .before .before .before .loop .v) (c .before .before .before .before .before .before .before .before .before .before .before .before .loop-test .taken) (c .before .before .before .before .before .before .before .before .before .before .before .before .before .loop .inv)
+    (c .before .before .before .before .before .before .before .before .before .before .mark-leaving .result) (c .before .before .before .before .before .before .before .before .if1 .left) (c .before .before .before .before .before .before .before .before .before .before .mark-leaving .ensures) (c .before .before .before .before .before .before .match-arriving .last .1 .0) (c .before .before .before .before .before .before .match-arriving .result) (c .before .before .before .before .before .before .match-arriving .ensures) (c .before .before .before .before .if2 .taken)
+    (c .before .before .side-twice .last .1 .1 .1 .0) (c .before .before .side-twice .result) (c .before .before .side-twice .ensures) (c .if3 .taken) (c .before .before .side-twice .last .1 .1 .1 .0)
+
+same-length-3 : tie.Need-same-length-3 Inv-loop μ-loop
+same-length-3 c = c .before .before .side-twice .kept .1 .1 .1 .0 ∙ c .before .before .before .before .before .before .match-arriving .kept .1 .0 ∙ c .before .before .before .before .before .before .before .before .before .before .mark-leaving .kept .1 .0 ∙ c .before .before .before .before .before .before .before .before .before .before .before .before .before .loop .inv .long
+
+returns-3 : tie.Need-returns-3 Inv-loop μ-loop
+returns-3 c = matching-lacks (c .before .before .before .before .before .before .before .before .before .before .before .before .before .before .before .args .triangles .now) (c .before .before .before .before .before .before .before .before .before .before .before .before .before .before .before .args .n) (c .before .before .before .before .before .before .before .before .before .before .before .before .before .before .before .args .s .now) (c .before .before .before .before .before .before .before .before .before .before .before .before .before .loop .s) (c .before .before .before .before .before .before .before .before .before .before .mark-leaving .last .1 .0) (c .before .before .before .before .before .before .before .before .before .before .before .before .before .loop .v) (c .before .before .before .before .before .before .before .before .before .before .before .before .loop-test .taken) (c .before .before .before .before .before .before .before .before .before .before .before .before .before .loop .inv)
+    (c .before .before .before .before .before .before .before .before .before .before .mark-leaving .result) (c .before .before .before .before .before .before .before .before .if1 .left) (c .before .before .before .before .before .before .before .before .before .before .mark-leaving .ensures) (c .before .before .before .before .before .before .match-arriving .last .1 .0) (c .before .before .before .before .before .before .match-arriving .result) (c .before .before .before .before .before .before .match-arriving .ensures) (c .before .before .before .before .if2 .taken)
+    (c .before .before .side-twice .last .1 .1 .1 .0) (c .before .before .side-twice .result) (c .before .before .side-twice .ensures) (c .if3 .left) (c .before .before .side-twice .last .1 .1 .1 .0)
+
+add-v : tie.Need-add-v Inv-loop μ-loop
+add-v c = omega (arith, c .before .before .before .before .before .before .before .before .loop-test .taken)
+
+loop-less : tie.Need-loop-less Inv-loop μ-loop
+loop-less c = omega (arith, c .before .before .before .before .before .before .before .before .loop-test .taken)
+
+loop-again : tie.Need-loop-again Inv-loop μ-loop
+loop-again c = matching-next (c .before .before .before .before .before .before .before .before .before .before .before .args .triangles .now) (c .before .before .before .before .before .before .before .before .before .before .before .args .n) (c .before .before .before .before .before .before .before .before .before .before .before .args .s .now) (c .before .before .before .before .before .before .before .before .before .loop .s) (c .before .before .before .before .before .before .mark-leaving .last .1 .0) (c .before .before .before .before .before .before .before .before .before .loop .v) (c .before .before .before .before .before .before .before .before .loop-test .taken) (c .before .before .before .before .before .before .before .before .before .loop .inv)
+    (c .before .before .before .before .before .before .mark-leaving .result) (c .before .before .before .before .if1 .left) (c .before .before .before .before .before .before .mark-leaving .ensures) (c .before .before .match-arriving .last .1 .0) (c .before .before .match-arriving .result) (c .before .before .match-arriving .ensures) (c .if2 .left)
+    (c .before .before .match-arriving .kept .1 .0 ∙ c .before .before .before .before .before .before .mark-leaving .kept .1 .0)
+
+same-length-4 : tie.Need-same-length-4 Inv-loop μ-loop
+same-length-4 c = c .before .loop .inv .long
+
+returns-4 : tie.Need-returns-4 Inv-loop μ-loop
+returns-4 c = matching-none (c .before .before .before .args .triangles .now) (c .before .before .before .args .n) (c .before .before .before .args .s .now) (c .before .loop .s) (c .before .loop .v) (c .loop-test .left) (c .before .loop .inv)
 
 pub match-sides-spec : {M : Type 1} → statement M
 match-sides-spec =
@@ -54,11 +83,18 @@ match-sides-spec =
     Inv-loop
     μ-loop
     loop-holds
-    match-at-requires
+    mark-leaving-requires
     same-length
     returns
+    match-arriving-requires
+    add-side-twice
+    side-twice-requires
+    same-length-2
+    returns-2
+    same-length-3
+    returns-3
     add-v
     loop-less
     loop-again
-    same-length-2
-    returns-2)
+    same-length-4
+    returns-4)

@@ -2,21 +2,28 @@
 use Prim.Native.Nat.{_-_}
 use native.Mathlib.Omega.{arith}
 use mathlib.Core.Path.{_∙_}
-use Rattle.sides.specs.Turns.{Scanning, scanning-start, scanning-found, scanning-next, scanning-none, marked-as}
+use Rattle.tables.specs.Tables.{view}
+use Rattle.sides.specs.Room.{ready-at}
+use Rattle.sides.specs.Turns.{mark-heads, Scanning, scanning-start, scanning-found, scanning-next, scanning-none, marked-as}
 use Rattle.sides.proofs.side_twice.Statement.{statement}
 use Rattle.sides.proofs.side_twice.Tie as tie
 
 abbrev Inv-loop : tie.InvT-loop
-Inv-loop n triangles s₀ v₀ s v = Scanning triangles n s₀ s v
+Inv-loop u n triangles s₀ v₀ s v = Scanning triangles u n s₀ s v
 
 abbrev μ-loop : tie.MeasureT-loop
-μ-loop n triangles s₀ v₀ s v = n - v
+μ-loop u n triangles s₀ v₀ s v = n - v
 
 loop-holds : tie.Need-loop-holds Inv-loop μ-loop
-loop-holds c = scanning-start (c .before .args .triangles .now) (c .before .args .n) (c .before .args .s .now)
+loop-holds c = scanning-start (c .before .args .triangles .now) (c .before .args .u) (c .before .args .n) (c .before .args .s .now)
 
 mark-leaving-requires : tie.Need-mark-leaving-requires Inv-loop μ-loop
-mark-leaving-requires c κs = rw (c .before .before .loop .inv .long) (c .before .before .before .before .pre)
+mark-leaving-requires c κs =
+    let R = c .before .before .before .before .pre in
+    let s = c .before .before .loop .s in
+    let v = c .before .before .loop .v in
+    let I = c .before .before .loop .inv in
+    (ready-at s v R (c .before .loop-test .taken) (I .long), rw (mark-heads (c .before .before .before .before .args .s .now) s (view s .mark) (I .same)) (R .heads v))
 
 same-length : tie.Need-same-length Inv-loop μ-loop
 same-length c = c .before .before .mark-leaving .kept .1 .0 ∙ c .before .before .before .before .before .loop .inv .long
@@ -24,7 +31,7 @@ same-length c = c .before .before .mark-leaving .kept .1 .0 ∙ c .before .befor
 returns : tie.Need-returns Inv-loop μ-loop
 returns c =
     let M = marked-as (c .before .before .before .before .before .before .before .args .triangles .now) (c .before .before .before .before .before .loop .s) (c .before .before .mark-leaving .last .1 .0) (c .before .before .before .before .before .loop .v) (c .before .before .mark-leaving .result) (c .if1 .taken) (c .before .before .mark-leaving .ensures) in
-    scanning-found (c .before .before .before .before .before .before .before .args .triangles .now) (c .before .before .before .before .before .before .before .args .n) (c .before .before .before .before .before .before .before .args .s .now) (c .before .before .before .before .before .loop .s) (c .before .before .mark-leaving .last .1 .0) (c .before .before .before .before .before .loop .v)
+    scanning-found (c .before .before .before .before .before .before .before .args .triangles .now) (c .before .before .before .before .before .before .before .args .u) (c .before .before .before .before .before .before .before .args .n) (c .before .before .before .before .before .before .before .args .s .now) (c .before .before .before .before .before .loop .s) (c .before .before .mark-leaving .last .1 .0) (c .before .before .before .before .before .loop .v)
     (c .before .before .before .before .loop-test .taken) M (c .before .before .before .before .before .loop .inv)
 
 add-v : tie.Need-add-v Inv-loop μ-loop
@@ -36,7 +43,7 @@ loop-less c = omega (arith, c .before .before .before .before .loop-test .taken)
 loop-again : tie.Need-loop-again Inv-loop μ-loop
 loop-again c =
     let M = marked-as (c .before .before .before .before .before .before .before .args .triangles .now) (c .before .before .before .before .before .loop .s) (c .before .before .mark-leaving .last .1 .0) (c .before .before .before .before .before .loop .v) (c .before .before .mark-leaving .result) (c .if1 .left) (c .before .before .mark-leaving .ensures) in
-    scanning-next (c .before .before .before .before .before .before .before .args .triangles .now) (c .before .before .before .before .before .before .before .args .n) (c .before .before .before .before .before .before .before .args .s .now) (c .before .before .before .before .before .loop .s) (c .before .before .mark-leaving .last .1 .0) (c .before .before .before .before .before .loop .v)
+    scanning-next (c .before .before .before .before .before .before .before .args .triangles .now) (c .before .before .before .before .before .before .before .args .u) (c .before .before .before .before .before .before .before .args .n) (c .before .before .before .before .before .before .before .args .s .now) (c .before .before .before .before .before .loop .s) (c .before .before .mark-leaving .last .1 .0) (c .before .before .before .before .before .loop .v)
     (c .before .before .before .before .loop-test .taken) (c .before .before .mark-leaving .kept .1 .0) M (c .before .before .before .before .before .loop .inv)
 
 same-length-2 : tie.Need-same-length-2 Inv-loop μ-loop
@@ -44,7 +51,7 @@ same-length-2 c = c .before .loop .inv .long
 
 returns-2 : tie.Need-returns-2 Inv-loop μ-loop
 returns-2 c =
-    scanning-none (c .before .before .before .args .triangles .now) (c .before .before .before .args .n) (c .before .before .before .args .s .now) (c .before .loop .s) (c .before .loop .v)
+    scanning-none (c .before .before .before .args .triangles .now) (c .before .before .before .args .u) (c .before .before .before .args .n) (c .before .before .before .args .s .now) (c .before .loop .s) (c .before .loop .v)
     (c .loop-test .left) (c .before .loop .inv)
 
 pub side-twice-spec : {M : Type 1} → statement M

@@ -1,6 +1,7 @@
--- `tables::get_count` meets its contract, from that of `peek`. Past the end both sides are 0. Assumes nothing.
+-- `tables::get_count` meets its contract, from that of `peek`. Past the table both sides are 0. Assumes nothing.
 use native.Mathlib.Omega.{arith}
-use Rattle.tables.specs.Tables.{view, countAt, count-past}
+use mathlib.Core.Path.{sym, _∙_}
+use Rattle.tables.specs.Tables.{count-in, count-past}
 use borrow.Author.Needs.{needs}
 use Rattle.tables.proofs.get_count.Statement.{statement}
 use Rattle.tables.proofs.get_count.Tie as tie
@@ -15,8 +16,8 @@ peek-requires : tie.Need-peek-requires
 peek-requires c κs = search needs
 
 returns : tie.Need-returns
-unfolding view countAt
-returns c = (c .peek .ensures .0, c .peek .ensures .1)
+returns c =
+    (c .peek .ensures .0 ∙ sym (count-in (c .before .before .args .s .now) (c .before .before .args .v) (c .before .if1 .taken)), c .peek .ensures .1)
 
 returns-2 : tie.Need-returns-2
 returns-2 c = (count-past (c .before .args .s .now) (c .before .args .v) (c .if1 .left), omega arith)

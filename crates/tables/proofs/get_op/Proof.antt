@@ -1,25 +1,23 @@
--- `tables::get_op` meets its contract, from that of `peek`. Past the end both sides are 0. Assumes nothing.
+-- `tables::get_op` meets its contract, from that of `peek`. Past the table both sides are 0. Assumes nothing.
 use native.Mathlib.Omega.{arith}
-use Rattle.tables.specs.Tables.{view, dartAt, op-past}
+use mathlib.Core.Path.{sym, _∙_}
+use Rattle.tables.specs.Tables.{op-in, op-past}
 use borrow.Author.Needs.{needs}
 use Rattle.tables.proofs.get_op.Statement.{statement}
 use Rattle.tables.proofs.get_op.Tie as tie
 
-mul-peek : tie.Need-mul-peek
-mul-peek c = search needs
-
-add-peek : tie.Need-add-peek
-add-peek c = search needs
+mul-if1 : tie.Need-mul-if1
+mul-if1 c = search needs
 
 peek-requires : tie.Need-peek-requires
 peek-requires c κs = search needs
 
 returns : tie.Need-returns
-unfolding view dartAt
-returns c = (c .peek .ensures .0, c .peek .ensures .1)
+returns c =
+    (c .peek .ensures .0 ∙ sym (op-in (c .before .before .args .s .now) (c .before .before .args .d) (c .before .if1 .taken)), c .peek .ensures .1)
 
 returns-2 : tie.Need-returns-2
 returns-2 c = (op-past (c .before .args .s .now) (c .before .args .d) (c .if1 .left), omega arith)
 
 pub get-op-spec : {M : Type 1} → statement M
-get-op-spec = tie.close (tie.spec mul-peek add-peek peek-requires returns returns-2)
+get-op-spec = tie.close (tie.spec mul-if1 peek-requires returns returns-2)

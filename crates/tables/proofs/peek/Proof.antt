@@ -1,7 +1,6 @@
--- `tables::peek` meets its contract, from that of `natural`. Past the end both sides are 0. Assumes nothing.
+-- `tables::peek` meets its contract, from that of `natural`. Assumes nothing.
 use mathlib.Core.Path.{_∙_, ap}
-use native.Mathlib.Omega.{arith}
-use lib.ListN.{getD, List·getD-eq-default}
+use lib.ListN.{getD}
 use lib.IntN.{pos}
 use mir.Facts.{toZ-ofZ}
 use mir.Syntax.{w64}
@@ -23,14 +22,8 @@ natural-requires c κs = search needs
 returns : tie.Need-returns
 unfolding cell
 returns c =
-    let f : SFits w64 (getD (c .before .before .before .args .s .now) (c .before .before .before .args .i) (pos 0)) = record { sfits = c .before .natural-arg .given } in
+    let f : SFits w64 (getD (c .before .before .args .s .now) (c .before .before .args .i) (pos 0)) = record { sfits = c .before .natural-arg .given } in
     (c .natural .ensures .0 ∙ ap value (toZ-ofZ f), c .natural .ensures .1)
 
-returns-2 : tie.Need-returns-2
-unfolding cell value
-returns-2 c = (rw (List·getD-eq-default (c .before .args .s .now) (pos 0) (c .if1 .left)), omega arith)
-
 pub peek-spec : {M : Type 1} → statement M
-peek-spec =
-    tie.close
-    (tie.spec mul-natural shared-slice-copy-out-natural natural-requires returns returns-2)
+peek-spec = tie.close (tie.spec mul-natural shared-slice-copy-out-natural natural-requires returns)

@@ -1,28 +1,23 @@
 -- `tables::set_head` meets its contract, from that of `poke`. Assumes nothing.
-use native.Mathlib.Omega.{arith}
 use mathlib.Core.Path.{_∙_, ap}
-use Rattle.tables.specs.Tables.{view, headAt, view-head}
+use Rattle.tables.specs.Tables.{view, view-head}
 use borrow.Author.Needs.{needs}
 use Rattle.tables.proofs.set_head.Statement.{statement}
 use Rattle.tables.proofs.set_head.Tie as tie
 
 mul-poke : tie.Need-mul-poke
-unfolding headAt
-mul-poke c = omega (arith, c .before .pre .0)
+mul-poke c = search needs
 
 add-poke : tie.Need-add-poke
-unfolding headAt
-add-poke c = omega (arith, c .before .pre .0)
+add-poke c = search needs
 
 poke-requires : tie.Need-poke-requires
-unfolding headAt
-poke-requires c κs = c .before .pre
+poke-requires c κs = search needs
 
 same-length : tie.Need-same-length
 same-length c = search needs
 
 returns : tie.Need-returns
-unfolding headAt
 returns c =
     ap view (c .before .poke .ensures) ∙ view-head (c .before .before .before .args .s .now) (c .before .before .before .args .v) (c .before .before .before .args .x) (c .before .before .before .pre .0)
 
