@@ -17,7 +17,7 @@ use Rattle.laws.specs.Lists.{getD-in}
 use Rattle.sphere.specs.Rows.{row3-means}
 use Rattle.sphere.specs.Asking.{ask-clean}
 use Rattle.peeling.specs.Labelled.{labels-exact, labels-below}
-use Rattle.tables.specs.Tables.{Tables, view, dartAt, dart-in}
+use Rattle.tables.specs.Tables.{Tables, view, dartIn}
 use Rattle.stage.specs.Stage.{Peeled, tag, tag-is}
 use Rattle.mesh.specs.Whole.{Lent, Said, Accepting, accepting-mesh, accepting-sphere}
 use Rattle.mesh.specs.declared.MeshAnswer.{MeshAnswer}
@@ -42,8 +42,8 @@ module _ {n : ℕ} {ts : List ℕ} {words : ℕ} (L : Lent n ts words) where
         | no l ↦ let p : length ts ≤ d = omega arith in rw (List·getD-eq-default ts 0 p) (omega (arith, L .least))
       ]
 
-  inside : (d : ℕ) → d < 6 * n → dartAt d < words
-  inside d h = omega (arith, dart-in n d h, L .room)
+  inside : (d : ℕ) → d < 6 * n → dartIn words d
+  inside d h = omega (arith, L .room)
 
   near : (g : ℕ) → g < length ts → (next g < 6 * n) × (prev g < 6 * n) × (g < 6 * n) × (g < 65536)
   unfolding next prev
@@ -54,6 +54,7 @@ module _ {n : ℕ} {ts : List ℕ} {words : ℕ} (L : Lent n ts words) where
       record {
         darts = λ g h. let b = near g h in record { dart = b .3; here = inside g (b .2); following = inside (next g) (b .0); previous = inside (prev g) (b .1) };
         vertices = λ d. record { room = omega (arith, small A d, L .room); small = omega (arith, small A d, L .most) };
+        few = omega (arith, L .triangles, L .most);
       }
 
   pub is-wide : Wide n words

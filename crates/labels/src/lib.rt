@@ -1,5 +1,6 @@
 // The labels call: on an accepted mesh the peeling labels the corners of the inner triangles. The work is linear in n, but for the search for the
-// smallest vertex that can leave. Of scratch it uses the ten words a vertex that the mesh check uses.
+// smallest vertex that can leave, which passes over whole groups and blocks of vertices. Of scratch it uses the ten words a vertex that the mesh
+// check uses.
 use mesh::MeshAnswer;
 use mesh::examine;
 use tables::clear;

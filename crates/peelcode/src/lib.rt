@@ -13,25 +13,108 @@ use tables::set_mark;
 use tables::set_op;
 use tables::vertex;
 ghost use mathlib.Core.Path.{_≡_};
-ghost use Prim.Native.Nat.{_-_, _≤_, _<_, _^_, min};
+ghost use Prim.Native.Nat.{_+_, _-_, _/_, _≤_, _<_, _^_, min};
 ghost use lib.ListN.{length};
 ghost use Rattle.tables.specs.Tables.{view};
 ghost use Rattle.peelwork.specs.Work.{Holds, Tagging, Room, Wide};
-ghost use Rattle.peelwork.specs.Work.{behind, turned, word, more, less, meet, round, enter, tag, border, pass, fan, gone, leave, can, scan, turn, leaveAll};
+ghost use Rattle.peelwork.specs.Work.{behind, near, low, top, setNear, setLow, setTop, wakeBlock, wakeGroup, wake, put, more, less};
+ghost use Rattle.peelwork.specs.Work.{meet, round, enter, word, tag, border, pass, fan, gone, leave};
+ghost use Rattle.peelwork.specs.Work.{can, scan, probe, look, find, seat, comb, survey, seek, turn, leaveAll};
 ghost use Rattle.peelwork.specs.Work.{wipe, outerMarks, outerEdges, outerLabels, begin, stage};
 
-// the opposite of dart d, and the dart that one turn leads to
+// the opposite of dart d
 fn across(s: &[i64], d: usize) -> usize
     ensures { λ r. ⌜ (r ≡ behind (view (now (s .entry))) d) × (r < 65536) ⌝ }
 {
     get_op(s, d) % 65536
 }
 
-fn turned(s: &[i64], d: usize) -> usize
-    requires { ⌜ d < 2 ^ 63 ⌝ }
-    ensures { λ r. ⌜ (r ≡ turned (view (now (s .entry))) d) × (r < 65536) ⌝ }
+// the counter of vertex w, the bound of block b, and that of group g
+fn near(s: &[i64], w: usize) -> usize
+    requires { ⌜ w < 2 ^ 63 ⌝ }
+    ensures { λ r. ⌜ (r ≡ near (view (now (s .entry))) w) × (r < 65536) ⌝ }
 {
-    across(s, before(d))
+    get_mark(s, 2 * w) % 65536
+}
+
+fn low(s: &[i64], b: usize) -> usize
+    requires { ⌜ b < 2 ^ 63 ⌝ }
+    ensures { λ r. ⌜ (r ≡ low (view (now (s .entry))) b) × (r < 32) ⌝ }
+{
+    get_mark(s, 2 * b) / 65536 % 32
+}
+
+fn top(s: &[i64], g: usize) -> usize
+    requires { ⌜ g < 2 ^ 63 ⌝ }
+    ensures { λ r. ⌜ r ≡ top (view (now (s .entry))) g ⌝ }
+{
+    get_mark(s, 2 * g) / 2097152
+}
+
+fn set_near(s: &mut [i64], w: usize, c: usize)
+    requires { ⌜ Holds (length (now s)) w × (c < 65536) ⌝ }
+    ensures { λ r. ⌜ view (now (s .exit)) ≡ setNear w c (view (now (s .entry))) ⌝ }
+{
+    let m = get_mark(s, 2 * w);
+    set_mark(s, 2 * w, c + 65536 * (m / 65536));
+}
+
+fn set_low(s: &mut [i64], b: usize, x: usize)
+    requires { ⌜ Holds (length (now s)) b × (x < 32) ⌝ }
+    ensures { λ r. ⌜ view (now (s .exit)) ≡ setLow b x (view (now (s .entry))) ⌝ }
+{
+    let m = get_mark(s, 2 * b);
+    set_mark(s, 2 * b, m % 65536 + 65536 * x + 2097152 * (m / 2097152));
+}
+
+fn set_top(s: &mut [i64], g: usize, x: usize)
+    requires { ⌜ Holds (length (now s)) g × (x < 32) ⌝ }
+    ensures { λ r. ⌜ view (now (s .exit)) ≡ setTop g x (view (now (s .entry))) ⌝ }
+{
+    let m = get_mark(s, 2 * g);
+    set_mark(s, 2 * g, m % 2097152 + 2097152 * x);
+}
+
+fn smaller(a: usize, b: usize) -> usize
+    ensures { λ r. ⌜ r ≡ min a b ⌝ }
+{
+    if a < b { a } else { b }
+}
+
+// the bounds of w's block and group let w be found
+fn wake_block(s: &mut [i64], w: usize)
+    requires { ⌜ Holds (length (now s)) w ⌝ }
+    ensures { λ r. ⌜ view (now (s .exit)) ≡ wakeBlock w (view (now (s .entry))) ⌝ }
+{
+    let x = low(s, w / 16);
+    set_low(s, w / 16, smaller(x, w % 16));
+}
+
+fn wake_group(s: &mut [i64], w: usize)
+    requires { ⌜ Holds (length (now s)) w ⌝ }
+    ensures { λ r. ⌜ view (now (s .exit)) ≡ wakeGroup w (view (now (s .entry))) ⌝ }
+{
+    let x = top(s, w / 256);
+    set_top(s, w / 256, smaller(x, w / 16 % 16));
+}
+
+fn wake(s: &mut [i64], w: usize)
+    requires { ⌜ Holds (length (now s)) w ⌝ }
+    ensures { λ r. ⌜ view (now (s .exit)) ≡ wake w (view (now (s .entry))) ⌝ }
+{
+    wake_block(s, w);
+    wake_group(s, w);
+}
+
+// a counter, with which w may be able to leave
+fn put(s: &mut [i64], w: usize, c: usize)
+    requires { ⌜ Holds (length (now s)) w × (c < 65536) ⌝ }
+    ensures { λ r. ⌜ view (now (s .exit)) ≡ put w c (view (now (s .entry))) ⌝ }
+{
+    set_near(s, w, c);
+    if c == 3 {
+        wake(s, w);
+    }
 }
 
 // vertex w has one frontier neighbour more, or one less
@@ -39,9 +122,9 @@ fn more(s: &mut [i64], w: usize)
     requires { ⌜ Holds (length (now s)) w ⌝ }
     ensures { λ r. ⌜ view (now (s .exit)) ≡ more w (view (now (s .entry))) ⌝ }
 {
-    let c = get_mark(s, 2 * w);
-    if c < 65536 {
-        set_mark(s, 2 * w, c + 1);
+    let c = near(s, w);
+    if c < 65535 {
+        put(s, w, c + 1);
     }
 }
 
@@ -49,42 +132,48 @@ fn less(s: &mut [i64], w: usize)
     requires { ⌜ Holds (length (now s)) w ⌝ }
     ensures { λ r. ⌜ view (now (s .exit)) ≡ less w (view (now (s .entry))) ⌝ }
 {
-    let c = get_mark(s, 2 * w);
+    let c = near(s, w);
     if 0 < c {
-        set_mark(s, 2 * w, c - 1);
+        put(s, w, c - 1);
     } else {
-        set_mark(s, 2 * w, 0);
+        put(s, w, 0);
     }
 }
 
-// u comes onto the frontier, and dart d leads from u to one of its neighbours
-fn meet(triangles: &[u16], s: &mut [i64], u: usize, d: usize)
-    requires { ⌜ Room (now triangles) (length (now s)) × Holds (length (now s)) u × (d < 2 ^ 63) ⌝ }
-    ensures { λ r. ⌜ view (now (s .exit)) ≡ meet (now (triangles .entry)) u d (view (now (s .entry))) ⌝ }
+// w is a neighbour of a vertex that comes onto the frontier and has counted c: where w is on the frontier they count each other
+fn meet(s: &mut [i64], w: usize, c: usize) -> usize
+    requires { ⌜ Holds (length (now s)) w × (c < 65536) ⌝ }
+    ensures { λ r. ⌜ (meet w c (view (now (s .entry))) ≡ record { count = r; tables = view (now (s .exit)) }) × (r ≤ c + 1) ⌝ }
 {
-    let w = end(triangles, d);
-    if 0 < get_mark(s, 2 * w) {
+    if 0 < near(s, w) {
         more(s, w);
-        more(s, u);
+        c + 1
+    } else {
+        c
     }
 }
 
-// the same for the darts of u, from `first` on until it comes again
-fn round(triangles: &[u16], s: &mut [i64], u: usize, first: usize)
-    requires { ⌜ Room (now triangles) (length (now s)) × Holds (length (now s)) u × (first < 2 ^ 63) ⌝ }
-    ensures { λ r. ⌜ view (now (s .exit)) ≡ round (now (triangles .entry)) u first (length (now (triangles .entry))) first (view (now (s .entry))) ⌝ }
+// the neighbours that turns from `first` on lead to, until it comes again; the answer is one more than were counted
+fn round(triangles: &[u16], s: &mut [i64], first: usize) -> usize
+    requires { ⌜ Room (now triangles) (length (now s)) × (first < 2 ^ 63) ⌝ }
+    ensures { λ r. ⌜ (round (now (triangles .entry)) first (length (now (triangles .entry))) first 1 (view (now (s .entry)))
+        ≡ record { count = r; tables = view (now (s .exit)) }) × (r < 65536) ⌝ }
 {
     let mut d = first;
+    let mut c = 1;
     let mut k = triangles.len();
     while 0 < k {
-        let h = turned(s, d);
-        meet(triangles, s, u, d);
+        let p = before(d);
+        let h = across(s, p);
+        let w = vertex(triangles, p);
+        c = meet(s, w, c);
         if h == first {
-            return;
+            return c;
         }
         d = h;
         k -= 1;
     }
+    c
 }
 
 // u comes onto the frontier; d is one of its darts
@@ -92,8 +181,8 @@ fn enter(triangles: &[u16], s: &mut [i64], u: usize, d: usize)
     requires { ⌜ Room (now triangles) (length (now s)) × Holds (length (now s)) u × (d < 2 ^ 63) ⌝ }
     ensures { λ r. ⌜ view (now (s .exit)) ≡ enter (now (triangles .entry)) u d (view (now (s .entry))) ⌝ }
 {
-    set_mark(s, 2 * u, 1);
-    round(triangles, s, u, d);
+    let c = round(triangles, s, d);
+    put(s, u, c);
 }
 
 // the word of a dart with this opposite whose corner has this label
@@ -119,13 +208,11 @@ fn tag(s: &mut [i64], g: usize)
     set_op(s, g, at_corner);
 }
 
-// a new dart of the frontier
-fn border(triangles: &[u16], s: &mut [i64], x: usize)
-    requires { ⌜ Room (now triangles) (length (now s)) × (x < 2 ^ 63) ⌝ }
-    ensures { λ r. ⌜ view (now (s .exit)) ≡ border (now (triangles .entry)) x (view (now (s .entry))) ⌝ }
+// a new dart of the frontier, from v to w
+fn border(s: &mut [i64], v: usize, w: usize, x: usize)
+    requires { ⌜ Holds (length (now s)) v × Holds (length (now s)) w × (x < 2 ^ 63) ⌝ }
+    ensures { λ r. ⌜ view (now (s .exit)) ≡ border v w x (view (now (s .entry))) ⌝ }
 {
-    let v = vertex(triangles, x);
-    let w = end(triangles, x);
     set_count(s, w, x);
     set_head(s, v, x);
 }
@@ -136,41 +223,35 @@ fn pass(triangles: &[u16], s: &mut [i64], g: usize)
     ensures { λ r. ⌜ view (now (s .exit)) ≡ pass (now (triangles .entry)) g (view (now (s .entry))) ⌝ }
 {
     if g < triangles.len() {
-        let x = across(s, after(g));
+        let q = after(g);
+        let v = vertex(triangles, before(g));
+        let w = vertex(triangles, q);
+        let x = across(s, q);
         tag(s, g);
-        border(triangles, s, x);
+        border(s, v, w, x);
     }
-}
-
-fn smaller(a: usize, b: usize) -> usize
-    ensures { λ r. ⌜ r ≡ min a b ⌝ }
-{
-    if a < b { a } else { b }
 }
 
 // The triangles of the leaving vertex, from that of `first` on to the one that ends at `right`, are passed, and the vertices between come onto the
-// frontier. The answer is the least of them and `least`.
-fn fan(triangles: &[u16], s: &mut [i64], right: usize, first: usize, least: usize) -> usize
-    requires { ⌜ Room (now triangles) (length (now s)) × (first < 2 ^ 63) ⌝ }
-    ensures { λ r. ⌜ fan (now (triangles .entry)) right (length (now (triangles .entry))) first least (view (now (s .entry)))
-        ≡ record { tables = view (now (s .exit)); low = r } ⌝ }
+// frontier.
+fn fan(triangles: &[u16], s: &mut [i64], right: usize, first: usize)
+    requires { ⌜ Room (now triangles) (length (now s)) × (first < 65536) ⌝ }
+    ensures { λ r. ⌜ view (now (s .exit)) ≡ fan (now (triangles .entry)) right (length (now (triangles .entry))) first (view (now (s .entry))) ⌝ }
 {
     let mut g = first;
-    let mut low = least;
     let mut k = triangles.len();
     while 0 < k {
-        let h = turned(s, g);
-        let u = end(triangles, h);
+        let p = before(g);
+        let u = vertex(triangles, p);
+        let h = across(s, p);
         pass(triangles, s, g);
         if u == right {
-            return low;
+            return;
         }
-        enter(triangles, s, u, across(s, h));
-        low = smaller(low, u);
+        enter(triangles, s, u, p);
         g = h;
         k -= 1;
     }
-    low
 }
 
 // v leaves as the i-th, from between `left` and `right`
@@ -180,19 +261,19 @@ fn gone(s: &mut [i64], i: usize, v: usize, left: usize, right: usize)
 {
     less(s, left);
     less(s, right);
-    set_mark(s, 2 * v, 0);
+    set_near(s, v, 0);
     set_mark(s, 2 * i + 1, v);
 }
 
-fn leave(triangles: &[u16], s: &mut [i64], i: usize, v: usize) -> usize
+fn leave(triangles: &[u16], s: &mut [i64], i: usize, v: usize)
     requires { ⌜ Room (now triangles) (length (now s)) × Holds (length (now s)) i × Holds (length (now s)) v ⌝ }
-    ensures { λ r. ⌜ leave (now (triangles .entry)) i v (view (now (s .entry))) ≡ record { tables = view (now (s .exit)); low = r } ⌝ }
+    ensures { λ r. ⌜ view (now (s .exit)) ≡ leave (now (triangles .entry)) i v (view (now (s .entry))) ⌝ }
 {
-    let g = get_head(s, v);
+    let g = get_head(s, v) % 65536;
     let left = end(triangles, g);
     let right = vertex(triangles, get_count(s, v));
     gone(s, i, v, left, right);
-    fan(triangles, s, right, g, smaller(v, smaller(left, right)))
+    fan(triangles, s, right, g);
 }
 
 // v is on the frontier, is not v0 or v1, and has two frontier neighbours
@@ -200,7 +281,7 @@ fn can(triangles: &[u16], s: &[i64], v: usize) -> bool
     requires { ⌜ v < 2 ^ 63 ⌝ }
     ensures { λ r. ⌜ r ≡ can (now (triangles .entry)) (view (now (s .entry))) v ⌝ }
 {
-    if get_mark(s, 2 * v) != 3 {
+    if near(s, v) != 3 {
         return false;
     }
     if v == vertex(triangles, 0) {
@@ -209,13 +290,13 @@ fn can(triangles: &[u16], s: &[i64], v: usize) -> bool
     v != vertex(triangles, 2)
 }
 
-// the first vertex from `low` on that can leave
-fn scan(triangles: &[u16], s: &[i64], n: usize, low: usize) -> usize
-    requires { ⌜ n < 2 ^ 63 ⌝ }
-    ensures { λ r. ⌜ r ≡ scan (now (triangles .entry)) (view (now (s .entry))) (n - low) low ⌝ }
+// the first vertex from `from` on and before `end` that can leave
+fn scan(triangles: &[u16], s: &[i64], end: usize, from: usize) -> usize
+    requires { ⌜ end < 2 ^ 63 ⌝ }
+    ensures { λ r. ⌜ r ≡ scan (now (triangles .entry)) (view (now (s .entry))) (end - from) from ⌝ }
 {
-    let mut v = low;
-    while v < n {
+    let mut v = from;
+    while v < end {
         if can(triangles, s, v) {
             return v;
         }
@@ -224,29 +305,113 @@ fn scan(triangles: &[u16], s: &[i64], n: usize, low: usize) -> usize
     v
 }
 
-// the smallest vertex that can leave does so, as the i-th
-fn turn(triangles: &[u16], s: &mut [i64], n: usize, i: usize, low: usize) -> usize
-    requires { ⌜ Room (now triangles) (length (now s)) × Wide n (length (now s)) × (i < n) ⌝ }
-    ensures { λ r. ⌜ turn (now (triangles .entry)) n i (record { tables = view (now (s .entry)); low = low })
-        ≡ record { tables = view (now (s .exit)); low = r } ⌝ }
+// the same in block b from its bound on, which is moved there
+fn probe(triangles: &[u16], s: &mut [i64], n: usize, b: usize) -> usize
+    requires { ⌜ Wide n (length (now s)) × (b < n) × (low (view (now s)) b < 16) ⌝ }
+    ensures { λ r. ⌜ probe (now (triangles .entry)) n b (view (now (s .entry))) ≡ record { vertex = r; tables = view (now (s .exit)) } ⌝ }
 {
-    let v = scan(triangles, s, n, low);
-    if v < n {
-        leave(triangles, s, i, v)
+    let end = smaller(n, 16 * b + 16);
+    let from = 16 * b + low(s, b);
+    let v = scan(triangles, s, end, from);
+    set_low(s, b, v - 16 * b);
+    v
+}
+
+// a block whose bound is its end is passed over
+fn look(triangles: &[u16], s: &mut [i64], n: usize, b: usize) -> usize
+    requires { ⌜ Wide n (length (now s)) × (b < n) ⌝ }
+    ensures { λ r. ⌜ look (now (triangles .entry)) n b (view (now (s .entry))) ≡ record { vertex = r; tables = view (now (s .exit)) } ⌝ }
+{
+    if low(s, b) < 16 {
+        probe(triangles, s, n, b)
     } else {
-        low
+        n
+    }
+}
+
+// the first block from `from` on and before `end` that has such a vertex
+fn find(triangles: &[u16], s: &mut [i64], n: usize, end: usize, from: usize) -> usize
+    requires { ⌜ Wide n (length (now s)) × (end ≤ n) ⌝ }
+    ensures { λ r. ⌜ find (now (triangles .entry)) n (end - from) from (view (now (s .entry))) ≡ record { vertex = r; tables = view (now (s .exit)) } ⌝ }
+{
+    let mut b = from;
+    while b < end {
+        let v = look(triangles, s, n, b);
+        if v < smaller(n, 16 * b + 16) {
+            return v;
+        }
+        b += 1;
+    }
+    n
+}
+
+// the block in its group of the vertex that was found, if one was
+fn seat(n: usize, v: usize) -> usize
+    ensures { λ r. ⌜ (r ≡ seat n v) × (r < 32) ⌝ }
+{
+    if v < n { v / 16 % 16 } else { 16 }
+}
+
+// the same in the blocks of group g from its bound on, which is moved there
+fn comb(triangles: &[u16], s: &mut [i64], n: usize, g: usize) -> usize
+    requires { ⌜ Wide n (length (now s)) × (g < n) × (top (view (now s)) g < 16) ⌝ }
+    ensures { λ r. ⌜ comb (now (triangles .entry)) n g (view (now (s .entry))) ≡ record { vertex = r; tables = view (now (s .exit)) } ⌝ }
+{
+    let end = smaller(n / 16 + 1, 16 * g + 16);
+    let from = 16 * g + top(s, g);
+    let v = find(triangles, s, n, end, from);
+    set_top(s, g, seat(n, v));
+    v
+}
+
+// a group whose bound is its end is passed over
+fn survey(triangles: &[u16], s: &mut [i64], n: usize, g: usize) -> usize
+    requires { ⌜ Wide n (length (now s)) × (g < n) ⌝ }
+    ensures { λ r. ⌜ survey (now (triangles .entry)) n g (view (now (s .entry))) ≡ record { vertex = r; tables = view (now (s .exit)) } ⌝ }
+{
+    if top(s, g) < 16 {
+        comb(triangles, s, n, g)
+    } else {
+        n
+    }
+}
+
+// the smallest vertex that can leave, found by groups of blocks
+fn seek(triangles: &[u16], s: &mut [i64], n: usize) -> usize
+    requires { ⌜ Wide n (length (now s)) × (0 < n) ⌝ }
+    ensures { λ r. ⌜ seek (now (triangles .entry)) n (n / 256 + 1) 0 (view (now (s .entry))) ≡ record { vertex = r; tables = view (now (s .exit)) } ⌝ }
+{
+    let groups = n / 256 + 1;
+    let mut g = 0;
+    while g < groups {
+        let v = survey(triangles, s, n, g);
+        if v < n {
+            return v;
+        }
+        g += 1;
+    }
+    n
+}
+
+// it leaves, as the i-th
+fn turn(triangles: &[u16], s: &mut [i64], n: usize, i: usize)
+    requires { ⌜ Room (now triangles) (length (now s)) × Wide n (length (now s)) × (i < n) ⌝ }
+    ensures { λ r. ⌜ view (now (s .exit)) ≡ turn (now (triangles .entry)) n i (view (now (s .entry))) ⌝ }
+{
+    let v = seek(triangles, s, n);
+    if v < n {
+        leave(triangles, s, i, v);
     }
 }
 
 // all vertices but v0 and v1 leave
 fn leave_all(triangles: &[u16], s: &mut [i64], n: usize)
     requires { ⌜ Room (now triangles) (length (now s)) × Wide n (length (now s)) ⌝ }
-    ensures { λ r. ⌜ view (now (s .exit)) ≡ leaveAll (now (triangles .entry)) n (n - 2) 0 (record { tables = view (now (s .entry)); low = 0 }) .tables ⌝ }
+    ensures { λ r. ⌜ view (now (s .exit)) ≡ leaveAll (now (triangles .entry)) n (n - 2) 0 (view (now (s .entry))) ⌝ }
 {
-    let mut low = 0;
     let mut i = 0;
     while i + 2 < n {
-        low = turn(triangles, s, n, i, low);
+        turn(triangles, s, n, i);
         i += 1;
     }
 }
@@ -280,10 +445,13 @@ fn outer_edges(triangles: &[u16], s: &mut [i64])
     requires { ⌜ Room (now triangles) (length (now s)) ⌝ }
     ensures { λ r. ⌜ view (now (s .exit)) ≡ outerEdges (now (triangles .entry)) (view (now (s .entry))) ⌝ }
 {
+    let a = vertex(triangles, 0);
+    let b = vertex(triangles, 1);
+    let c = vertex(triangles, 2);
     let x = across(s, 0);
     let y = across(s, 1);
-    border(triangles, s, x);
-    border(triangles, s, y);
+    border(s, b, a, x);
+    border(s, c, b, y);
 }
 
 // 3 stands for no label

@@ -2,7 +2,7 @@
 use Prim.Native.Nat.{ℕ, zero, suc, _+_, _*_, _/_, _≤_, _<_}
 use mathlib.Core.Path.{_≡_, refl, sym, ap, _∙_}
 use mathlib.Core.Logic.{inl, inr}
-use mathlib.Core.Bool.{Bool, false, _||_}
+use mathlib.Core.Bool.{Bool, false, _||_, cond}
 use mathlib.Core.List.{List, [], _∷_, List·Memᴰ·not-nil, List·Memᴰ·cases-cons, List·Memᴰ·eq-of-singleton}
 use native.Mathlib.Omega.{arith}
 use native.Mathlib.Decide.{ℕ-discrete}
@@ -11,14 +11,16 @@ use lib.ListN.{length}
 use borrow.Author.Tests.{lt-ltb, le-ltb, eq-eqb, ne-eqb}
 use Rattle.definitions.specs.Words.{any, elem}
 use Rattle.definitions.specs.Mesh.{next, org, tip, opp, leaving}
-use Rattle.laws.specs.Lists.{_∈_, keep-none}
+use Rattle.laws.specs.Lists.{_∈_, tested, keep-none}
 use Rattle.sphere.specs.Sphere.{Sphere}
 use Rattle.sphere.specs.Turns.{tip-opp}
 use Rattle.peeling.specs.Inside.{three, org-opp0, org-opp1, org-opp2, proper01, proper12, proper20}
 use Rattle.tables.specs.Tables.{Tables, upd, upd-same, upd-other, setOp, setHead, setCount, setMark}
-use Rattle.peelwork.specs.Work.{behind, word, border, wipe, outerMarks, outerEdges, outerLabels, begin}
-use Rattle.peelwork.specs.Counts.{tip-is, met, joins, met-add, joins-none, joins-both, joins-one}
-use Rattle.peelwork.specs.Entering.{Marked, mark-same, mark-other}
+use Rattle.peelwork.specs.Work.{behind, near, low, top, word, border, wipe, outerMarks, outerEdges, outerLabels, begin}
+use Rattle.peelwork.specs.Counts.{tip-is, met, met-most, joins, met-add, joins-none, joins-both, joins-one}
+use Rattle.peelwork.specs.Marks.{mark-same, mark-other}
+use Rattle.peelwork.specs.Searching.{Bounded}
+use Rattle.peelwork.specs.Entering.{Marked}
 use Rattle.peelwork.specs.Passing.{code, Coded}
 use Rattle.peelwork.specs.Fanning.{marked-same}
 use Rattle.peelwork.specs.Standing.{on, Stood}
@@ -118,9 +120,9 @@ module _ (n : ℕ) (ts : List ℕ) (s : Sphere n (length ts / 3) (org ts) (opp t
     abbrev t₁ : Tables
     t₁ = outerMarks ts (wipe n 0 t)
 
-    marks₁ : Marked n ts F t₁
+    exact₁ : (w : ℕ) → w < n → t₁ .mark (2 * w) ≡ cond (F w) (suc (met ts F w)) 0
     unfolding outerMarks
-    marks₁ w h =
+    exact₁ w h =
         let a = wipe n 0 t in
         let b = setMark (2 * o 0) 3 a in
         let c = setMark (2 * o 1) 3 b in
@@ -136,6 +138,22 @@ module _ (n : ℕ) (ts : List ℕ) (s : Sphere n (length ts / 3) (org ts) (opp t
                     ]
               ]
         ]
+
+    -- with no bound above them yet
+    small₁ : (w : ℕ) → w < n → t₁ .mark (2 * w) < 65536
+    small₁ w h =
+        elim (tested (F w)) [
+          | inl e ↦ omega (arith, rw e at (exact₁ w h), met-most ts F w)
+          | inr e ↦ omega (arith, rw e at (exact₁ w h))
+        ]
+
+    marks₁ : Marked n ts F t₁
+    unfolding near
+    marks₁ w h = omega (arith, exact₁ w h, small₁ w h)
+
+    bounds₁ : (b : ℕ) → b < n → (low t₁ b ≡ 0) × (top t₁ b ≡ 0)
+    unfolding low top
+    bounds₁ b h = omega (arith, small₁ b h)
 
     op₁ : (d : ℕ) → d < length ts → t₁ .op d ≡ opp ts d
     unfolding outerMarks setMark
@@ -154,15 +172,15 @@ module _ (n : ℕ) (ts : List ℕ) (s : Sphere n (length ts / 3) (org ts) (opp t
     abbrev t₂ : Tables
     t₂ = outerEdges ts t₁
 
-    edges-are : t₂ ≡ border ts y (border ts x t₁)
-    unfolding outerEdges
-    edges-are = rw (behind₁ 0 (omega (arith, three-in 0 (omega arith))), behind₁ 1 (omega (arith, three-in 1 (omega arith))))
-
     tipx : tip ts x ≡ o 0
     tipx = tip-is ts x ∙ tip-opp s 0 (three-in 0 (omega arith))
 
     tipy : tip ts y ≡ o 1
     tipy = tip-is ts y ∙ tip-opp s 1 (three-in 1 (omega arith))
+
+    edges-are : t₂ ≡ border (o y) (tip ts y) y (border (o x) (tip ts x) x t₁)
+    unfolding outerEdges
+    edges-are = rw (behind₁ 0 (omega (arith, three-in 0 (omega arith))), behind₁ 1 (omega (arith, three-in 1 (omega arith))), org-opp0 s, org-opp1 s, tipx, tipy)
 
     heads₂ : (d : ℕ) → d ∈ D → t₂ .head (o d) ≡ d
     unfolding border setHead setCount
@@ -185,8 +203,12 @@ module _ (n : ℕ) (ts : List ℕ) (s : Sphere n (length ts / 3) (org ts) (opp t
     op₂ d h = ap (λ (u : Tables). u .op d) edges-are ∙ op₁ d h
 
     marks₂ : Marked n ts F t₂
-    unfolding border setHead setCount
-    marks₂ w h = ap (λ (u : Tables). u .mark (2 * w)) edges-are ∙ marks₁ w h
+    unfolding near border setHead setCount
+    marks₂ w h = ap (λ (u : Tables). near u w) edges-are ∙ marks₁ w h
+
+    bounds₂ : (b : ℕ) → b < n → (low t₂ b ≡ 0) × (top t₂ b ≡ 0)
+    unfolding low top border setHead setCount
+    bounds₂ b h = (ap (λ (u : Tables). low u b) edges-are ∙ bounds₁ b h .0, ap (λ (u : Tables). top u b) edges-are ∙ bounds₁ b h .1)
 
     abbrev t₃ : Tables
     t₃ = outerLabels t₂
@@ -223,7 +245,7 @@ module _ (n : ℕ) (ts : List ℕ) (s : Sphere n (length ts / 3) (org ts) (opp t
 
     -- the tables of a peeling that has removed nothing
     pub begun : Stood n ts [] D [] (begin ts n t)
-    unfolding begin outerLabels setOp
+    unfolding near begin outerLabels setOp
     begun =
         record {
           coded = coded₃;
@@ -232,3 +254,8 @@ module _ (n : ℕ) (ts : List ℕ) (s : Sphere n (length ts / 3) (org ts) (opp t
           counts = counts₂;
           old = λ z m. absurd (List·Memᴰ·not-nil m);
         }
+
+    -- whose bounds are all 0
+    pub begun-bounded : Bounded ts n (begin ts n t)
+    unfolding low top begin outerLabels setOp
+    begun-bounded x h c = omega (arith, bounds₂ (x / 16) (omega arith) .0, bounds₂ (x / 256) (omega arith) .1)

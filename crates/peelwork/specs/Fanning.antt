@@ -1,9 +1,9 @@
 -- The triangles of a leaving vertex are passed one after the other, and the vertices between come onto the frontier. Assumes nothing.
-use Prim.Native.Nat.{ℕ, zero, suc, _+_, _*_, _/_, _≤_, _<_, min, pred}
+use Prim.Native.Nat.{ℕ, zero, suc, _+_, _*_, _/_, _%_, _≤_, _<_, pred}
 use mathlib.Core.Path.{_≡_, refl, sym, ap, _∙_, fun-ext}
 use mathlib.Core.Logic.{_≢_, inl, inr}
 use mathlib.Core.Bool.{Bool, false, _||_}
-use mathlib.Core.List.{List, [], _∷_, _++_, map, append-assoc, List·Memᴰ·head, List·Memᴰ·tail, List·Memᴰ·not-nil, List·Memᴰ·cases-cons, List·Memᴰ·append-cases, List·Memᴰ·eq-of-singleton, Memᴰ·cast}
+use mathlib.Core.List.{List, [], _∷_, _++_, map, append-assoc, List·Memᴰ·head, List·Memᴰ·tail, List·Memᴰ·cases-cons, List·Memᴰ·append-cases, List·Memᴰ·eq-of-singleton, Memᴰ·cast}
 use native.Mathlib.Omega.{arith}
 use lib.Dec.{eqb}
 use lib.ListN.{length}
@@ -14,13 +14,14 @@ use Rattle.laws.specs.Lists.{_∈_, tested}
 use Rattle.laws.specs.Counting.{Distinct, distinct-head, distinct-tail}
 use Rattle.sphere.specs.Sphere.{Sphere}
 use Rattle.sphere.specs.Darts.{next-prev, next-next, next-below, prev-below}
-use Rattle.sphere.specs.Turns.{tip-opp, tip-rot, opp-rot, rot-below}
+use Rattle.sphere.specs.Turns.{tip-opp, tip-rot, rot-below}
 use Rattle.realizer.specs.Trace.{Fan, end, more}
 use Rattle.peeling.specs.Peel.{rest}
 use Rattle.tables.specs.Tables.{Tables, upd-at, upd-other}
-use Rattle.peelwork.specs.Work.{Work, behind, turned, enter, pass, fan}
+use Rattle.peelwork.specs.Work.{turned, near, enter, pass, fan}
+use Rattle.peelwork.specs.Marks.{Beside, Opposed}
 use Rattle.peelwork.specs.Counts.{tip-is}
-use Rattle.peelwork.specs.Entering.{Marked, Opposed, Beside, enter-beside, enter-marks}
+use Rattle.peelwork.specs.Entering.{Marked, enter-beside, enter-marks}
 use Rattle.peelwork.specs.Passing.{Coded, coded-opposed, pass-coded, pass-mark, pass-head, pass-count}
 
 pub marked-same : (n : ℕ) (ts : List ℕ) (F G : ℕ → Bool) (t : Tables) → ((u : ℕ) → F u ≡ G u) → Marked n ts F t → Marked n ts G t
@@ -55,16 +56,14 @@ module _ (n : ℕ) (ts : List ℕ) (s : Sphere n (length ts / 3) (org ts) (opp t
   across-tip g b = tip-is ts (across g) ∙ tip-opp s (next g) (next-below T g b) ∙ sym (tip-is ts g)
 
   -- What the tables hold after the darts gs of a fan, where t were the tables before and P, F what had been passed and the frontier's vertices.
-  pub record Fanned (P : List ℕ) (F : ℕ → Bool) (gs : List ℕ) (low : ℕ) (t : Tables) (w : Work) : Type 0 where
-    pub coded : Coded ts (P ++ gs) (w .tables)
-    pub marked : Marked n ts (λ u. elem u (map (tip ts) (rest gs)) || F u) (w .tables)
-    pub head-new : (g : ℕ) → g ∈ gs → w .tables .head (org ts (across g)) ≡ across g
-    pub head-old : (x : ℕ) → ((g : ℕ) → g ∈ gs → x ≢ org ts (across g)) → w .tables .head x ≡ t .head x
-    pub count-new : (g : ℕ) → g ∈ gs → w .tables .count (tip ts (across g)) ≡ across g
-    pub count-old : (x : ℕ) → ((g : ℕ) → g ∈ gs → x ≢ tip ts (across g)) → w .tables .count x ≡ t .count x
-    pub order : (i : ℕ) → w .tables .mark (2 * i + 1) ≡ t .mark (2 * i + 1)
-    pub lower : w .low ≤ low
-    pub lowest : (g : ℕ) → g ∈ rest gs → w .low ≤ tip ts g
+  pub record Fanned (P : List ℕ) (F : ℕ → Bool) (gs : List ℕ) (t t′ : Tables) : Type 0 where
+    pub coded : Coded ts (P ++ gs) t′
+    pub marked : Marked n ts (λ u. elem u (map (tip ts) (rest gs)) || F u) t′
+    pub head-new : (g : ℕ) → g ∈ gs → t′ .head (org ts (across g)) ≡ across g
+    pub head-old : (x : ℕ) → ((g : ℕ) → g ∈ gs → x ≢ org ts (across g)) → t′ .head x ≡ t .head x
+    pub count-new : (g : ℕ) → g ∈ gs → t′ .count (tip ts (across g)) ≡ across g
+    pub count-old : (x : ℕ) → ((g : ℕ) → g ∈ gs → x ≢ tip ts (across g)) → t′ .count x ≡ t .count x
+    pub order : (i : ℕ) → t′ .mark (2 * i + 1) ≡ t .mark (2 * i + 1)
 
   -- what is asked of a fan's darts: they are inner darts of one vertex, their triangles have no label yet, and all but the first lead to new vertices
   pub record Fresh (v right : ℕ) (P : List ℕ) (F : ℕ → Bool) (gs : List ℕ) : Type 0 where
@@ -87,46 +86,42 @@ module _ (n : ℕ) (ts : List ℕ) (s : Sphere n (length ts / 3) (org ts) (opp t
 
   -- ---- one triangle
 
-  module _ (right k g low : ℕ) (t : Tables) (o : Opposed ts t) (b : g < 3 * T) where
+  module _ (right k g : ℕ) (t : Tables) (o : Opposed ts t) (b : g < 3 * T) where
     turned-is : turned t g ≡ opp ts (prev g)
     unfolding turned
     turned-is = o (prev g) (omega (arith, prev-below T g b))
 
-    fan-ends : 0 < k → tip ts (opp ts (prev g)) ≡ right → fan ts right k g low t ≡ record { tables = pass ts g t; low = low }
+    tip-next : tip ts (opp ts (prev g)) ≡ org ts (prev g)
+    tip-next = tip-is ts (opp ts (prev g)) ∙ tip-rot s g b
+
+    fan-ends : 0 < k → tip ts (opp ts (prev g)) ≡ right → fan ts right k g t ≡ pass ts g t
     unfolding fan
     fan-ends = go k
       where
-        go : (k : ℕ) → 0 < k → tip ts (opp ts (prev g)) ≡ right → fan ts right k g low t ≡ record { tables = pass ts g t; low = low }
+        go : (k : ℕ) → 0 < k → tip ts (opp ts (prev g)) ≡ right → fan ts right k g t ≡ pass ts g t
         go zero h e = absurd (omega arith)
-        go (suc k) h e = rw (eq-eqb (tip ts (turned t g)) right (ap (tip ts) turned-is ∙ e))
+        go (suc k) h e = rw (eq-eqb (org ts (prev g)) right (sym tip-next ∙ e))
 
     -- the vertex between, and one of its darts
     abbrev u : ℕ
     u = org ts (prev g)
 
-    tip-next : tip ts (opp ts (prev g)) ≡ u
-    tip-next = tip-is ts (opp ts (prev g)) ∙ tip-rot s g b
-
-    fan-goes : 0 < k → Opposed ts (pass ts g t) → u ≢ right
-        → fan ts right k g low t ≡ fan ts right (pred k) (opp ts (prev g)) (min low u) (enter ts u (prev g) (pass ts g t))
+    fan-goes : 0 < k → u ≢ right → fan ts right k g t ≡ fan ts right (pred k) (opp ts (prev g)) (enter ts u (prev g) (pass ts g t))
     unfolding fan
     fan-goes = go k
       where
-        go : (k : ℕ) → 0 < k → Opposed ts (pass ts g t) → u ≢ right
-            → fan ts right k g low t ≡ fan ts right (pred k) (opp ts (prev g)) (min low u) (enter ts u (prev g) (pass ts g t))
-        go zero h o′ q = absurd (omega arith)
-        go (suc k) h o′ q =
-            let back : behind (pass ts g t) (opp ts (prev g)) ≡ prev g = o′ (opp ts (prev g)) (omega (arith, rot-below s g b)) ∙ opp-rot s g b in
-            let e : tip ts (turned t g) ≡ u = ap (tip ts) turned-is ∙ tip-next in
-            rw (ne-eqb (tip ts (turned t g)) right (λ z. q (sym e ∙ z)), turned-is, tip-next, back)
+        go : (k : ℕ) → 0 < k → u ≢ right → fan ts right k g t ≡ fan ts right (pred k) (opp ts (prev g)) (enter ts u (prev g) (pass ts g t))
+        go zero h q = absurd (omega arith)
+        go (suc k) h q = rw (ne-eqb (org ts (prev g)) right q, turned-is)
 
   -- ---- the fan's end, and one triangle more
 
-  module _ (v right low : ℕ) (P : List ℕ) (F : ℕ → Bool) (t : Tables) (c : Coded ts P t) (M : Marked n ts F t) where
+  module _ (v right : ℕ) (P : List ℕ) (F : ℕ → Bool) (t : Tables) (c : Coded ts P t) (M : Marked n ts F t) where
     passed-marks : (g : ℕ) → g < 3 * T → 3 ≤ g → (prev g ∈ P → ⊥) × (next g ∈ P → ⊥) → Marked n ts F (pass ts g t)
-    passed-marks g b i q w wn = pass-mark n ts s len few P t c g b i q (2 * w) ∙ M w wn
+    unfolding near
+    passed-marks g b i q w wn = ap (λ (m : ℕ). m % 65536) (pass-mark n ts s len few P t c g b i q (2 * w)) ∙ M w wn
 
-    last-one : (g : ℕ) → Fresh v right P F (g ∷ []) → Fanned P F (g ∷ []) low t (record { tables = pass ts g t; low = low })
+    last-one : (g : ℕ) → Fresh v right P F (g ∷ []) → Fanned P F (g ∷ []) t (pass ts g t)
     unfolding elem any
     last-one g f =
         let m : g ∈ g ∷ [] = List·Memᴰ·head refl in
@@ -141,8 +136,6 @@ module _ (n : ℕ) (ts : List ℕ) (s : Sphere n (length ts / 3) (org ts) (opp t
           count-new = λ x k. let e = List·Memᴰ·eq-of-singleton k in rw e (pass-count n ts s len few P t c g b i q (tip ts (across g)) ∙ upd-at (tip ts (across g)) (tip ts (across g)) (across g) (t .count) refl);
           count-old = λ x h. pass-count n ts s len few P t c g b i q x ∙ upd-other (tip ts (across g)) x (across g) (t .count) (h g m);
           order = λ j. pass-mark n ts s len few P t c g b i q (2 * j + 1);
-          lower = omega arith;
-          lowest = λ x k. absurd (List·Memᴰ·not-nil k);
         }
 
     -- with the vertex beyond g's triangle on the frontier, the rest of the fan
@@ -229,11 +222,11 @@ module _ (n : ℕ) (ts : List ℕ) (s : Sphere n (length ts / 3) (org ts) (opp t
       apart-tip : (y : ℕ) → y ∈ gs → tip ts g ≢ tip ts y
       apart-tip y k e = distinct-head (f .distinct) (Memᴰ·cast (same-tip g y b (f .below y (List·Memᴰ·tail k)) (same-from y k) e) k)
 
-      one-more : (w : Work) → Fanned (P ++ (g ∷ [])) F₁ gs (min low x) t2 w → Fanned P F (g ∷ gs) low t w
-      one-more w r =
+      one-more : (t′ : Tables) → Fanned (P ++ (g ∷ [])) F₁ gs t2 t′ → Fanned P F (g ∷ gs) t t′
+      one-more t′ r =
           record {
             coded = rw (append-assoc P (g ∷ []) gs) at (r .coded);
-            marked = marked-same n ts (λ u. elem u (map (tip ts) (rest gs)) || F₁ u) (λ u. elem u (map (tip ts) gs) || F u) (w .tables) (λ u. rw tips (elem-cons u x (map (tip ts) (rest gs)) (F u))) (r .marked);
+            marked = marked-same n ts (λ u. elem u (map (tip ts) (rest gs)) || F₁ u) (λ u. elem u (map (tip ts) gs) || F u) t′ (λ u. rw tips (elem-cons u x (map (tip ts) (rest gs)) (F u))) (r .marked);
             head-new = λ h m. elim (List·Memᴰ·cases-cons m) [
               | inl e ↦
                   rw e (r .head-old (org ts (across g)) (λ y k z. apart-org y k (sym (across-org g b) ∙ z ∙ across-org y (f .below y (List·Memᴰ·tail k))))
@@ -249,24 +242,18 @@ module _ (n : ℕ) (ts : List ℕ) (s : Sphere n (length ts / 3) (org ts) (opp t
             ];
             count-old = λ y h. r .count-old y (λ z m. h z (List·Memᴰ·tail m)) ∙ entered .counts y ∙ pass-count n ts s len few P t c g b i q y ∙ upd-other (tip ts (across g)) y (across g) (t .count) (h g (List·Memᴰ·head refl));
             order = λ j. r .order j ∙ entered .order j ∙ pass-mark n ts s len few P t c g b i q (2 * j + 1);
-            lower = omega (arith, r .lower);
-            lowest = λ h m. elim (List·Memᴰ·cases-cons (rw shape at m)) [
-              | inl e ↦ omega (arith, r .lower, ap (tip ts) e, x-is)
-              | inr k ↦ r .lowest h k
-            ];
           }
 
   module _ (v last right : ℕ) (lastIs : tip ts last ≡ right) where
-    pub fanned : {g : ℕ} {gs : List ℕ} → Fan T (org ts) (opp ts) last g gs → (k low : ℕ) (P : List ℕ) (F : ℕ → Bool) (t : Tables) → length gs ≤ k → Coded ts P t → Marked n ts F t
-        → Fresh v right P F gs → Fanned P F gs low t (fan ts right k g low t)
-    fanned {g} (end b e) k low P F t h c M f =
-        rw (fan-ends right k g low t (coded-opposed n ts s len few P t c) b (omega arith) (ap (tip ts) e ∙ lastIs)) (last-one v right low P F t c M g f)
-    fanned {g} (more {gs = gs} b fan′) k low P F t h c M f =
+    pub fanned : {g : ℕ} {gs : List ℕ} → Fan T (org ts) (opp ts) last g gs → (k : ℕ) (P : List ℕ) (F : ℕ → Bool) (t : Tables) → length gs ≤ k → Coded ts P t → Marked n ts F t
+        → Fresh v right P F gs → Fanned P F gs t (fan ts right k g t)
+    fanned {g} (end b e) k P F t h c M f =
+        rw (fan-ends right k g t (coded-opposed n ts s len few P t c) b (omega arith) (ap (tip ts) e ∙ lastIs)) (last-one v right P F t c M g f)
+    fanned {g} (more {gs = gs} b fan′) k P F t h c M f =
         let shape = fan-shape fan′ in
         let o = coded-opposed n ts s len few P t c in
-        let o1 = coded-opposed n ts s len few (P ++ (g ∷ [])) (pass ts g t) (coded1 v right low P F t c M g gs shape f) in
-        let away : org ts (prev g) ≢ right = λ z. f .short (opp ts (prev g)) (List·Memᴰ·tail (second v right low P F t c M g gs shape f)) (x-is v right low P F t c M g gs shape f ∙ z) in
-        rw (fan-goes right k g low t o b (omega arith) o1 away)
-        (one-more v right low P F t c M g gs shape f (fan ts right (pred k) (opp ts (prev g)) (min low (org ts (prev g))) (enter ts (org ts (prev g)) (prev g) (pass ts g t)))
-        (fanned fan′ (pred k) (min low (org ts (prev g))) (P ++ (g ∷ [])) (F₁ v right low P F t c M g gs shape f) (t2 v right low P F t c M g gs shape f) (omega arith)
-        (coded2 v right low P F t c M g gs shape f) (marked2 v right low P F t c M g gs shape f) (fresh2 v right low P F t c M g gs shape f)))
+        let away : org ts (prev g) ≢ right = λ z. f .short (opp ts (prev g)) (List·Memᴰ·tail (second v right P F t c M g gs shape f)) (x-is v right P F t c M g gs shape f ∙ z) in
+        rw (fan-goes right k g t o b (omega arith) away)
+        (one-more v right P F t c M g gs shape f (fan ts right (pred k) (opp ts (prev g)) (enter ts (org ts (prev g)) (prev g) (pass ts g t)))
+        (fanned fan′ (pred k) (P ++ (g ∷ [])) (F₁ v right P F t c M g gs shape f) (t2 v right P F t c M g gs shape f) (omega arith)
+        (coded2 v right P F t c M g gs shape f) (marked2 v right P F t c M g gs shape f) (fresh2 v right P F t c M g gs shape f)))

@@ -6,13 +6,13 @@ use mathlib.Core.Bool.{true, false}
 use mathlib.Core.List.{List, [], _∷_, _++_, append-assoc, append-nil, List·Memᴰ·head, List·Memᴰ·tail, List·Memᴰ·cases-cons, Memᴰ·append-right}
 use mathlib.Core.Option.{some}
 use native.Mathlib.Omega.{arith}
-use native.Mathlib.Decide.{ℕ-discrete, decLt}
+use native.Mathlib.Decide.{ℕ-discrete}
 use lib.ListN.{length, length-map}
 use borrow.Author.Tests.{lt-ltb}
 use Rattle.definitions.specs.Words.{iterate}
 use Rattle.definitions.specs.Mesh.{next, org, opp}
 use Rattle.definitions.specs.Labels.{Peeling, leaver, remove, step}
-use Rattle.laws.specs.Lists.{_∈_, clash, decIn, upto-in, length-upto}
+use Rattle.laws.specs.Lists.{_∈_, decIn, upto-in, length-upto}
 use Rattle.laws.specs.Counting.{Distinct, cons, distinct-within, distinct-upto}
 use Rattle.sphere.specs.Sphere.{Sphere}
 use Rattle.peeling.specs.Inside.{Inside, Inv, Lonely, two}
@@ -23,19 +23,20 @@ use Rattle.peeling.specs.Vertices.{state, remove-is}
 use Rattle.peeling.specs.Run.{run}
 use Rattle.stage.specs.Stage.{Stored}
 use Rattle.tables.specs.Tables.{Tables}
-use Rattle.peelwork.specs.Work.{Work, can, leave, turn, leaveAll}
+use Rattle.peelwork.specs.Work.{Found, can, seek, leave, turn, leaveAll}
+use Rattle.peelwork.specs.Searching.{Bounded, bounded-leave, Sought, sought-all}
 use Rattle.peelwork.specs.Passing.{Coded}
-use Rattle.peelwork.specs.Standing.{Stood}
+use Rattle.peelwork.specs.Standing.{Stood, stood-same}
 use Rattle.peelwork.specs.Stepping.{head-is, count-is, head-kept, count-kept, order-here, order-kept, stands}
-use Rattle.peelwork.specs.Choosing.{scan-finds, chosen, quiet}
+use Rattle.peelwork.specs.Choosing.{chosen}
 
 step-is : (ts : List ℕ) (p : Peeling) (w : ℕ) → leaver ts p ≡ some w → step ts p ≡ remove ts p w
 unfolding step
 step-is ts p w t = rw (t, step)
 
-pub all-suc : (ts : List ℕ) (n k i : ℕ) (w : Work) → leaveAll ts n (suc k) i w ≡ leaveAll ts n k (suc i) (turn ts n i w)
+pub all-suc : (ts : List ℕ) (n k i : ℕ) (t : Tables) → leaveAll ts n (suc k) i t ≡ leaveAll ts n k (suc i) (turn ts n i t)
 unfolding leaveAll
-all-suc ts n k i w = refl
+all-suc ts n k i t = refl
 
 module _ (n : ℕ) (ts : List ℕ) (s : Sphere n (length ts / 3) (org ts) (opp ts)) (len : 3 * (length ts / 3) ≡ length ts) (few : length ts < 32000) where
   abbrev T : ℕ
@@ -82,9 +83,8 @@ module _ (n : ℕ) (ts : List ℕ) (s : Sphere n (length ts / 3) (org ts) (opp t
       omega (arith, c, length-upto n)
 
   module _ (k i : ℕ) (R P A : List ℕ) (e e′ : ℕ) (B : List ℕ) (v : Inv n T o op R (A ++ e ∷ e′ ∷ B)) (lo : Lonely T o op R (A ++ e ∷ e′ ∷ B) (o e))
-      (ch : leaver ts (state ts R (A ++ e ∷ e′ ∷ B) P) ≡ some (o e)) (w : Work) (st : Stood n ts R (A ++ e ∷ e′ ∷ B) P (w .tables))
-      (able : can ts (w .tables) (o e) ≡ true) (below : o e < n) (first : (x : ℕ) → x < o e → can ts (w .tables) x ≡ false)
-      (low : (x : ℕ) → x < w .low → can ts (w .tables) x ≡ false) where
+      (ch : leaver ts (state ts R (A ++ e ∷ e′ ∷ B) P) ≡ some (o e)) (t : Tables) (st : Stood n ts R (A ++ e ∷ e′ ∷ B) P t)
+      (able : can ts t (o e) ≡ true) (below : o e < n) (first : (x : ℕ) → x < o e → can ts t x ≡ false) (bounded : Bounded ts n t) where
     abbrev D : List ℕ
     D = A ++ e ∷ e′ ∷ B
 
@@ -97,84 +97,92 @@ module _ (n : ℕ) (ts : List ℕ) (s : Sphere n (length ts / 3) (org ts) (opp t
     lv : Leaves T o op R D e e′ hs E
     lv = leaves s R A e e′ B v lo
 
-    abbrev w₁ : Work
-    w₁ = leave ts i (o e) (w .tables)
+    abbrev f : Found
+    f = seek ts n (n / 256 + 1) 0 t
+
+    abbrev t₁ : Tables
+    t₁ = f .tables
+
+    abbrev t₂ : Tables
+    t₂ = leave ts i (o e) t₁
+
+    sought : Sought ts n t (o e) f
+    sought = sought-all ts n (o e) below t bounded able first
+
+    st₁ : Stood n ts R D P t₁
+    st₁ = stood-same (sought .beside) (sought .nears) st
 
     -- the work's choice is the definition's
-    turned : turn ts n i w ≡ w₁
+    turned : turn ts n i t ≡ t₂
     unfolding turn
-    turned =
-        let up : w .low ≤ o e = elim (decLt (o e) (w .low)) [ yes h ↦ clash able (low (o e) h) | no h ↦ omega arith ] in
-        let found = scan-finds ts (w .tables) (o e) (n - w .low) (w .low) up (omega (arith, up, below)) able first in
-        rw (found, lt-ltb (o e) n below)
+    turned = rw (sought .here, lt-ltb (o e) n below)
 
     stepped : step ts (state ts R D P) ≡ state ts (o e ∷ R) E (P ++ hs)
     stepped = step-is ts (state ts R D P) (o e) ch ∙ remove-is n ts s len R P A e e′ B v lo
 
-    onward : Followed k (suc i) (o e ∷ R) E (P ++ hs) (w₁ .tables) (leaveAll ts n k (suc i) w₁ .tables) → Followed (suc k) i R D P (w .tables) (leaveAll ts n (suc k) i w .tables)
+    onward : Followed k (suc i) (o e ∷ R) E (P ++ hs) t₂ (leaveAll ts n k (suc i) t₂) → Followed (suc k) i R D P t (leaveAll ts n (suc k) i t)
     unfolding iterate passes final trace
     onward r =
-        rw (all-suc ts n k i w, turned) (record {
+        rw (all-suc ts n k i t, turned) (record {
           peel = Peel.step e e′ hs v lv (r .peel);
           ends = rw stepped (r .ends ∙ ap (λ (x : List ℕ). state ts (final (r .peel)) (2 ∷ []) x) (append-assoc P hs (passes (r .peel))));
           coded = rw (append-assoc P hs (passes (r .peel))) at (r .coded);
           stored = (
-            r .order i (omega arith) ∙ order-here n ts s len few v lv st i,
-            r .heads (o e) (List·Memᴰ·head refl) ∙ head-kept n ts s len few v lv st i (o e) (List·Memᴰ·head refl) ∙ head-is n ts s len few v lv st i,
-            r .counts (o e) (List·Memᴰ·head refl) ∙ count-kept n ts s len few v lv st i (o e) (List·Memᴰ·head refl) ∙ count-is n ts s len few v lv st i,
+            r .order i (omega arith) ∙ order-here n ts s len few v lv st₁ i,
+            r .heads (o e) (List·Memᴰ·head refl) ∙ head-kept n ts s len few v lv st₁ i (o e) (List·Memᴰ·head refl) ∙ head-is n ts s len few v lv st₁ i,
+            r .counts (o e) (List·Memᴰ·head refl) ∙ count-kept n ts s len few v lv st₁ i (o e) (List·Memᴰ·head refl) ∙ count-is n ts s len few v lv st₁ i,
             r .stored,
           );
-          heads = λ x m. r .heads x (List·Memᴰ·tail m) ∙ head-kept n ts s len few v lv st i x (List·Memᴰ·tail m);
-          counts = λ x m. r .counts x (List·Memᴰ·tail m) ∙ count-kept n ts s len few v lv st i x (List·Memᴰ·tail m);
-          order = λ j h. r .order j (omega arith) ∙ order-kept n ts s len few v lv st i j (omega arith);
+          heads = λ x m. r .heads x (List·Memᴰ·tail m) ∙ head-kept n ts s len few v lv st₁ i x (List·Memᴰ·tail m) ∙ sought .beside .heads x;
+          counts = λ x m. r .counts x (List·Memᴰ·tail m) ∙ count-kept n ts s len few v lv st₁ i x (List·Memᴰ·tail m) ∙ sought .beside .counts x;
+          order = λ j h. r .order j (omega arith) ∙ order-kept n ts s len few v lv st₁ i j (omega arith) ∙ sought .beside .order j;
         })
 
     e-in : e ∈ op 2 ∷ D
     e-in = List·Memᴰ·tail (Memᴰ·append-right A (List·Memᴰ·head refl))
 
-    next-stands : Stood n ts (o e ∷ R) E (P ++ hs) (w₁ .tables)
-    next-stands = stands n ts s len few v lv st i
+    next-stands : Stood n ts (o e ∷ R) E (P ++ hs) t₂
+    next-stands = stands n ts s len few v lv st₁ i
 
     -- with or without a further vertex
     one-step : Distinct R → ((x : ℕ) → x ∈ R → x < n) → length R ≡ i → n ≡ length R + 2 + suc k
         → (Inv n T o op (o e ∷ R) E → Distinct (o e ∷ R) → ((x : ℕ) → x ∈ o e ∷ R → x < n) → length (o e ∷ R) ≡ suc i → n ≡ length (o e ∷ R) + 2 + k
-        → Stood n ts (o e ∷ R) E (P ++ hs) (w₁ .tables) → ((x : ℕ) → x < w₁ .low → can ts (w₁ .tables) x ≡ false)
-        → Followed k (suc i) (o e ∷ R) E (P ++ hs) (w₁ .tables) (leaveAll ts n k (suc i) w₁ .tables))
-        → Followed (suc k) i R D P (w .tables) (leaveAll ts n (suc k) i w .tables)
+        → Stood n ts (o e ∷ R) E (P ++ hs) t₂ → Bounded ts n t₂ → Followed k (suc i) (o e ∷ R) E (P ++ hs) t₂ (leaveAll ts n k (suc i) t₂))
+        → Followed (suc k) i R D P t (leaveAll ts n (suc k) i t)
     unfolding leaveAll
     one-step d b m c more =
         elim (ℕ-discrete (next e) (op 2)) [
           | no ne ↦
-              onward (more (goes-on s v lv ne) (cons {x = o e} (v .this e e-in .from) d) (λ x h. elim (List·Memᴰ·cases-cons h) [ inl t ↦ rw t below | inr y ↦ b x y ]) (omega arith) (omega arith) next-stands (quiet n ts s len few v lv st i first))
+              onward (more (goes-on s v lv ne) (cons {x = o e} (v .this e e-in .from) d) (λ x h. elim (List·Memᴰ·cases-cons h) [ inl t ↦ rw t below | inr y ↦ b x y ]) (omega arith) (omega arith) next-stands (bounded-leave ts n few i (o e) t₁ (sought .bounded)))
           | yes la ↦
               let l = left-over s v lv la in
               let z : k ≡ 0 = omega (arith, two-left (o e ∷ R) l) in
-              onward (rw z (ended (suc i) (o e ∷ R) E (P ++ hs) (w₁ .tables) (lv .ends la) (empty s v lv la) l (next-stands .coded) (omega arith)))
+              onward (rw z (ended (suc i) (o e ∷ R) E (P ++ hs) t₂ (lv .ends la) (empty s v lv la) l (next-stands .coded) (omega arith)))
         ]
 
   -- ---- the run
 
   -- with a vertex that can leave the run goes on
-  pub follow : (k i : ℕ) (R D P : List ℕ) (w : Work) → Inv n T o op R D → Distinct R → ((x : ℕ) → x ∈ R → x < n) → length R ≡ i → n ≡ length R + 2 + k
-      → Stood n ts R D P (w .tables) → ((x : ℕ) → x < w .low → can ts (w .tables) x ≡ false) → Followed k i R D P (w .tables) (leaveAll ts n k i w .tables)
+  pub follow : (k i : ℕ) (R D P : List ℕ) (t : Tables) → Inv n T o op R D → Distinct R → ((x : ℕ) → x ∈ R → x < n) → length R ≡ i → n ≡ length R + 2 + k
+      → Stood n ts R D P t → Bounded ts n t → Followed k i R D P t (leaveAll ts n k i t)
   unfolding iterate
-  follow zero i R D P w v d b m c st low =
+  follow zero i R D P t v d b m c st B =
       let r = run n ts s len zero R D P v d b c in
       absurd (omega (arith, two s v, length-map D o, ap (λ (p : Peeling). length (p .frontier)) (r .ends)))
-  follow (suc k) i R D P w v d b m c st low =
+  follow (suc k) i R D P t v d b m c st B =
       let x = run n ts s len (suc k) R D P v d b c .moves 0 (omega arith) in
       let h = chosen n ts s len v st (x .0) (x .1) in
-      at (h .A) (h .e) (h .e′) (h .B) D (h .parts) v (h .alone) (h .least) st (h .can-leave) (h .below) (h .first) (λ X Q w′ u y z l q s′ low′. follow k (suc i) (o (h .e) ∷ R) X Q w′ u y z l q s′ low′)
+      at (h .A) (h .e) (h .e′) (h .B) D (h .parts) v (h .alone) (h .least) st (h .can-leave) (h .below) (h .first) (λ X Q t′ u y z l q s′ B′. follow k (suc i) (o (h .e) ∷ R) X Q t′ u y z l q s′ B′)
     where
-      at : (A : List ℕ) (e e′ : ℕ) (B X : List ℕ) → X ≡ A ++ e ∷ e′ ∷ B → Inv n T o op R X → Lonely T o op R X (o e) → leaver ts (state ts R X P) ≡ some (o e) → Stood n ts R X P (w .tables)
-          → can ts (w .tables) (o e) ≡ true → o e < n → ((x : ℕ) → x < o e → can ts (w .tables) x ≡ false)
-          → ((X Q : List ℕ) (w′ : Work) → Inv n T o op (o e ∷ R) X → Distinct (o e ∷ R) → ((x : ℕ) → x ∈ o e ∷ R → x < n) → length (o e ∷ R) ≡ suc i → n ≡ length (o e ∷ R) + 2 + k
-          → Stood n ts (o e ∷ R) X Q (w′ .tables) → ((x : ℕ) → x < w′ .low → can ts (w′ .tables) x ≡ false) → Followed k (suc i) (o e ∷ R) X Q (w′ .tables) (leaveAll ts n k (suc i) w′ .tables))
-          → Followed (suc k) i R X P (w .tables) (leaveAll ts n (suc k) i w .tables)
-      at A e e′ B X t u l h s₁ able below first more =
-          let v₁ = rw t at u in
-          let lo = rw t at l in
-          let ch = rw t at h in
-          let s₂ = rw t at s₁ in
-          rw t (one-step k i R P A e e′ B v₁ lo ch w s₂ able below first low d b m c
-          (more (D′ s R A e e′ B v₁) (P ++ gs s R A e e′ B v₁) (leave ts i (o e) (w .tables))))
+      at : (A : List ℕ) (e e′ : ℕ) (B X : List ℕ) → X ≡ A ++ e ∷ e′ ∷ B → Inv n T o op R X → Lonely T o op R X (o e) → leaver ts (state ts R X P) ≡ some (o e) → Stood n ts R X P t
+          → can ts t (o e) ≡ true → o e < n → ((x : ℕ) → x < o e → can ts t x ≡ false)
+          → ((X Q : List ℕ) (t′ : Tables) → Inv n T o op (o e ∷ R) X → Distinct (o e ∷ R) → ((x : ℕ) → x ∈ o e ∷ R → x < n) → length (o e ∷ R) ≡ suc i → n ≡ length (o e ∷ R) + 2 + k
+          → Stood n ts (o e ∷ R) X Q t′ → Bounded ts n t′ → Followed k (suc i) (o e ∷ R) X Q t′ (leaveAll ts n k (suc i) t′))
+          → Followed (suc k) i R X P t (leaveAll ts n (suc k) i t)
+      at A e e′ F X q u l h s₁ able below first more =
+          let v₁ = rw q at u in
+          let lo = rw q at l in
+          let ch = rw q at h in
+          let s₂ = rw q at s₁ in
+          rw q (one-step k i R P A e e′ F v₁ lo ch t s₂ able below first B d b m c
+          (more (D′ s R A e e′ F v₁) (P ++ gs s R A e e′ F v₁) (leave ts i (o e) (seek ts n (n / 256 + 1) 0 t .tables))))

@@ -1,5 +1,7 @@
 -- The work of the peeling on the tables, and that it does what the peeling does.
 pub mod Work
+pub mod Marks
+pub mod Searching
 pub mod Counts
 pub mod Entering
 pub mod Losing

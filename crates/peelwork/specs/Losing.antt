@@ -1,5 +1,5 @@
 -- A vertex leaves the frontier: its two frontier neighbours count it no more. Assumes nothing.
-use Prim.Native.Nat.{ℕ, _+_, _-_, _*_, _/_, _<_}
+use Prim.Native.Nat.{ℕ, _+_, _-_, _*_, _/_, _%_, _<_}
 use mathlib.Core.Path.{_≡_, refl, sym, ap, _∙_}
 use mathlib.Core.Logic.{_≢_, _⊎_, inl, inr}
 use mathlib.Core.Bool.{Bool, true, false, not, _&&_, _||_}
@@ -12,59 +12,71 @@ use borrow.Author.Tests.{eq-eqb, ne-eqb}
 use Rattle.definitions.specs.Mesh.{org, tip, opp}
 use Rattle.laws.specs.Lists.{tested}
 use Rattle.sphere.specs.Sphere.{Sphere}
-use Rattle.tables.specs.Tables.{Tables, upd-same, setMark}
-use Rattle.peelwork.specs.Work.{less, gone}
+use Rattle.tables.specs.Tables.{Tables, setMark}
+use Rattle.peelwork.specs.Work.{near, setNear, less, gone}
+use Rattle.peelwork.specs.Marks.{Beside, beside-then, mark-same, mark-other, near-small, setNear-beside, near-same, near-other, put-beside, put-same, put-other}
 use Rattle.peelwork.specs.Counts.{met, joins, met-same, met-add, joins-none, joins-both, joins-one}
-use Rattle.peelwork.specs.Entering.{Marked, mark-same, mark-other}
+use Rattle.peelwork.specs.Entering.{Marked}
 
-less-same : (w : ℕ) (t : Tables) → less w t .mark (2 * w) ≡ t .mark (2 * w) - 1
+less-same : (w : ℕ) (t : Tables) → near (less w t) w ≡ near t w - 1
 unfolding less
-less-same w t = mark-same (2 * w) (t .mark (2 * w) - 1) t
+less-same w t = put-same w (near t w - 1) t (omega (arith, near-small t w))
 
-less-other : (w x : ℕ) (t : Tables) → x ≢ 2 * w → less w t .mark x ≡ t .mark x
+less-other : (w x : ℕ) (t : Tables) → x ≢ w → near (less w t) x ≡ near t x
 unfolding less
-less-other w x t h = mark-other (2 * w) x (t .mark (2 * w) - 1) t h
+less-other w x t h = put-other w (near t w - 1) t x h
+
+less-beside : (w : ℕ) (t : Tables) → Beside t (less w t)
+unfolding less
+less-beside w t = put-beside w (near t w - 1) t
 
 -- what `gone` leaves in each place
 module _ (i v left right : ℕ) (t : Tables) where
-  pub gone-own : gone i v left right t .mark (2 * v) ≡ 0
-  unfolding gone
-  gone-own = mark-other (2 * i + 1) (2 * v) v (setMark (2 * v) 0 (less right (less left t))) (omega arith) ∙ mark-same (2 * v) 0 (less right (less left t))
+  abbrev t₂ : Tables
+  t₂ = less right (less left t)
+
+  gone-near : (w : ℕ) → near (gone i v left right t) w ≡ near (setNear v 0 t₂) w
+  unfolding near gone
+  gone-near w = ap (λ (m : ℕ). m % 65536) (mark-other (2 * i + 1) (2 * w) v (setNear v 0 t₂) (omega arith))
+
+  gone-own : near (gone i v left right t) v ≡ 0
+  gone-own = gone-near v ∙ near-same v 0 t₂ (omega arith)
+
+  past : (w : ℕ) → w ≢ v → near (gone i v left right t) w ≡ near t₂ w
+  past w a = gone-near w ∙ near-other v 0 t₂ w a
+
+  gone-other : (w : ℕ) → w ≢ v → w ≢ left → w ≢ right → near (gone i v left right t) w ≡ near t w
+  gone-other w a b c = past w a ∙ less-other right w (less left t) c ∙ less-other left w t b
+
+  gone-left : left ≢ v → left ≢ right → near (gone i v left right t) left ≡ near t left - 1
+  gone-left a b = past left a ∙ less-other right left (less left t) b ∙ less-same left t
+
+  gone-right : right ≢ v → left ≢ right → near (gone i v left right t) right ≡ near t right - 1
+  gone-right a b = past right a ∙ less-same right (less left t) ∙ ap (λ (x : ℕ). x - 1) (less-other left right t (λ e. b (sym e)))
+
+  -- and in the other tables
+  kept : Beside t (setNear v 0 t₂)
+  kept = beside-then (less-beside left t) (beside-then (less-beside right (less left t)) (setNear-beside v 0 t₂))
 
   pub gone-order : gone i v left right t .mark (2 * i + 1) ≡ v
-  unfolding gone setMark
-  gone-order = upd-same (2 * i + 1) v (setMark (2 * v) 0 (less right (less left t)) .mark)
-
-  past : (w : ℕ) → w ≢ 2 * i + 1 → w ≢ 2 * v → gone i v left right t .mark w ≡ less right (less left t) .mark w
   unfolding gone
-  past w a b = mark-other (2 * i + 1) w v (setMark (2 * v) 0 (less right (less left t))) a ∙ mark-other (2 * v) w 0 (less right (less left t)) b
+  gone-order = mark-same (2 * i + 1) v (setNear v 0 t₂)
 
   pub gone-earlier : (j : ℕ) → j ≢ i → gone i v left right t .mark (2 * j + 1) ≡ t .mark (2 * j + 1)
-  gone-earlier j h =
-      past (2 * j + 1) (omega arith) (omega arith) ∙ less-other right (2 * j + 1) (less left t) (omega arith) ∙ less-other left (2 * j + 1) t (omega arith)
+  unfolding gone
+  gone-earlier j h = mark-other (2 * i + 1) (2 * j + 1) v (setNear v 0 t₂) (omega arith) ∙ kept .order j
 
-  pub gone-other : (w : ℕ) → w ≢ v → w ≢ left → w ≢ right → gone i v left right t .mark (2 * w) ≡ t .mark (2 * w)
-  gone-other w a b c = past (2 * w) (omega arith) (omega arith) ∙ less-other right (2 * w) (less left t) (omega arith) ∙ less-other left (2 * w) t (omega arith)
-
-  gone-left : left ≢ v → left ≢ right → gone i v left right t .mark (2 * left) ≡ t .mark (2 * left) - 1
-  gone-left a b = past (2 * left) (omega arith) (omega arith) ∙ less-other right (2 * left) (less left t) (omega arith) ∙ less-same left t
-
-  gone-right : right ≢ v → left ≢ right → gone i v left right t .mark (2 * right) ≡ t .mark (2 * right) - 1
-  gone-right a b =
-      past (2 * right) (omega arith) (omega arith) ∙ less-same right (less left t) ∙ ap (λ (x : ℕ). x - 1) (less-other left (2 * right) t (omega arith))
-
-  -- and the other tables
   pub gone-op : (d : ℕ) → gone i v left right t .op d ≡ t .op d
-  unfolding gone less setMark
-  gone-op d = refl
+  unfolding gone setMark
+  gone-op d = kept .ops d
 
   pub gone-head : (w : ℕ) → gone i v left right t .head w ≡ t .head w
-  unfolding gone less setMark
-  gone-head w = refl
+  unfolding gone setMark
+  gone-head w = kept .heads w
 
   pub gone-count : (w : ℕ) → gone i v left right t .count w ≡ t .count w
-  unfolding gone less setMark
-  gone-count w = refl
+  unfolding gone setMark
+  gone-count w = kept .counts w
 
 module _ (n : ℕ) (ts : List ℕ) (s : Sphere n (length ts / 3) (org ts) (opp ts)) (len : 3 * (length ts / 3) ≡ length ts)
     (F : ℕ → Bool) (i v a b : ℕ) (t : Tables) (M : Marked n ts F t) (vF : F v ≡ true)
@@ -94,8 +106,8 @@ module _ (n : ℕ) (ts : List ℕ) (s : Sphere n (length ts / 3) (org ts) (opp t
             | no q ↦ rw (ne-eqb u v q) (elim (tested (F u)) [ inl f ↦ rw f | inr f ↦ rw f ])
           ]
 
-  near : (w d : ℕ) → d < 3 * (length ts / 3) → org ts d ≡ v → tip ts d ≡ w → joins ts w v ≡ 1
-  near w d h e q = joins-both n ts s len w v ∙ joins-one n ts s len v w d h e q
+  close : (w d : ℕ) → d < 3 * (length ts / 3) → org ts d ≡ v → tip ts d ≡ w → joins ts w v ≡ 1
+  close w d h e q = joins-both n ts s len w v ∙ joins-one n ts s len v w d h e q
 
   far : (w : ℕ) → F w ≡ true → w ≢ tip ts a → w ≢ tip ts b → joins ts w v ≡ 0
   far w f p q =
@@ -108,9 +120,9 @@ module _ (n : ℕ) (ts : List ℕ) (s : Sphere n (length ts / 3) (org ts) (opp t
         | yes q ↦ rw (q, F₀-v) (gone-own i v (tip ts a) (tip ts b) t)
         | no q ↦
             rw (F₀-other w q) (elim (ℕ-discrete w (tip ts a)) [
-              | yes p ↦ rw (p, aF) (omega (arith, gone-left i v (tip ts a) (tip ts b) t la lr, rw aF at (M (tip ts a) an), met-less (tip ts a), near (tip ts a) a ab av refl))
+              | yes p ↦ rw (p, aF) (omega (arith, gone-left i v (tip ts a) (tip ts b) t la lr, rw aF at (M (tip ts a) an), met-less (tip ts a), close (tip ts a) a ab av refl))
               | no p ↦ elim (ℕ-discrete w (tip ts b)) [
-                | yes r ↦ rw (r, bF) (omega (arith, gone-right i v (tip ts a) (tip ts b) t ra lr, rw bF at (M (tip ts b) bn), met-less (tip ts b), near (tip ts b) b bb bv refl))
+                | yes r ↦ rw (r, bF) (omega (arith, gone-right i v (tip ts a) (tip ts b) t ra lr, rw bF at (M (tip ts b) bn), met-less (tip ts b), close (tip ts b) b bb bv refl))
                 | no r ↦
                     let same = gone-other i v (tip ts a) (tip ts b) t w q p r in
                     elim (tested (F w)) [

@@ -14,9 +14,10 @@ use Rattle.definitions.specs.Mesh.{tri, next, prev, org, tip, opp}
 use Rattle.laws.specs.Lists.{_∈_, tested, elem-true, true-elem, elem-false, false-elem}
 use Rattle.sphere.specs.Sphere.{Sphere}
 use Rattle.sphere.specs.Darts.{next-prev, prev-next, next-next, next-below, prev-below, next-other, prev-other}
+use Rattle.sphere.specs.Turns.{tip-opp}
 use Rattle.tables.specs.Tables.{Tables, upd, upd-same, upd-other, setOp, setHead, setCount}
 use Rattle.peelwork.specs.Work.{behind, word, tag, border, pass}
-use Rattle.peelwork.specs.Entering.{Opposed}
+use Rattle.peelwork.specs.Marks.{Opposed}
 
 -- the darts from 3 on are those of inner triangles
 pub inner-dart : (d : ℕ) → 0 < tri d → 3 ≤ d
@@ -110,9 +111,15 @@ module _ (n : ℕ) (ts : List ℕ) (s : Sphere n (length ts / 3) (org ts) (opp t
               ]
         ]
 
-    pass-is : pass ts g t ≡ border ts (opp ts (next g)) (tag g t)
-    unfolding pass
-    pass-is = rw (lt-ltb g (length ts) (omega arith), o (next g) (omega (arith, next-below T g h, len)))
+    abbrev x : ℕ
+    x = opp ts (next g)
+
+    pass-is : pass ts g t ≡ border (org ts x) (tip ts x) x (tag g t)
+    unfolding pass tip
+    pass-is =
+        let b = next-below T g h in
+        let from : org ts x ≡ org ts (prev g) = s .turned (next g) b ∙ ap (org ts) (next-next g) in
+        rw (lt-ltb g (length ts) (omega arith), o (next g) (omega (arith, b, len)), from, tip-opp s (next g) b)
 
     pub pass-coded : Coded ts (P ++ (g ∷ [])) (pass ts g t)
     unfolding border setHead setCount
@@ -120,13 +127,13 @@ module _ (n : ℕ) (ts : List ℕ) (s : Sphere n (length ts / 3) (org ts) (opp t
 
     pub pass-mark : (i : ℕ) → pass ts g t .mark i ≡ t .mark i
     unfolding border setHead setCount tag setOp
-    pass-mark i = ap (λ (x : Tables). x .mark i) pass-is
+    pass-mark i = ap (λ (y : Tables). y .mark i) pass-is
 
     -- the frontier's dart that leaves a vertex, and the one that leads to it
     pub pass-head : (w : ℕ) → pass ts g t .head w ≡ upd (org ts (opp ts (next g))) (opp ts (next g)) (t .head) w
     unfolding border setHead setCount tag setOp
-    pass-head w = ap (λ (x : Tables). x .head w) pass-is
+    pass-head w = ap (λ (y : Tables). y .head w) pass-is
 
     pub pass-count : (w : ℕ) → pass ts g t .count w ≡ upd (tip ts (opp ts (next g))) (opp ts (next g)) (t .count) w
     unfolding border setHead setCount tag setOp
-    pass-count w = ap (λ (x : Tables). x .count w) pass-is
+    pass-count w = ap (λ (y : Tables). y .count w) pass-is

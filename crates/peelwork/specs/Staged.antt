@@ -32,7 +32,7 @@ use Rattle.tables.specs.Tables.{Tables, view}
 use Rattle.peelwork.specs.Work.{begin, stage}
 use Rattle.peelwork.specs.Passing.{inner-dart, dart-inner, code}
 use Rattle.peelwork.specs.Following.{Followed, follow}
-use Rattle.peelwork.specs.Beginning.{begun}
+use Rattle.peelwork.specs.Beginning.{begun, begun-bounded}
 
 module _ (n : ℕ) (ts : List ℕ) (s : Sphere n (length ts / 3) (org ts) (opp ts)) (exact : length ts ≡ trianglesLength n) (most : n ≤ 4096) where
   abbrev T : ℕ
@@ -167,8 +167,8 @@ module _ (n : ℕ) (ts : List ℕ) (s : Sphere n (length ts / 3) (org ts) (opp t
     followed : Followed n ts s len few (n - 2) 0 [] D [] (begin ts n t) (stage ts n t)
     unfolding stage
     followed =
-        follow n ts s len few (n - 2) 0 [] D [] (record { tables = begin ts n t; low = 0 }) (Invariant.start s) nil (λ x m. absurd (List·Memᴰ·not-nil m)) refl (omega (arith, s .least))
-        (begun n ts s len few t opposed) (λ x h. absurd (omega arith))
+        follow n ts s len few (n - 2) 0 [] D [] (begin ts n t) (Invariant.start s) nil (λ x m. absurd (List·Memᴰ·not-nil m)) refl (omega (arith, s .least))
+        (begun n ts s len few t opposed) (begun-bounded n ts s len few t opposed)
 
     same-passed : passes (followed .peel) ≡ P
     same-passed =

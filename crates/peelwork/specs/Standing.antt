@@ -1,26 +1,24 @@
 -- The vertices of a frontier: which they are, the frontier neighbours that each has, and what the tables hold of a peeling that stands there.
 -- Assumes nothing.
-use Prim.Native.Nat.{ℕ, _*_, _/_, _≤_, _<_}
+use Prim.Native.Nat.{ℕ, _*_, _/_, _<_}
 use mathlib.Core.Path.{_≡_, refl, sym, ap, _∙_}
 use mathlib.Core.Logic.{_≢_, inl, inr}
 use mathlib.Core.Bool.{Bool, true, false, not, _&&_}
-use mathlib.Core.List.{List, [], _∷_, _++_, map, List·Memᴰ·head, List·Memᴰ·tail, List·Memᴰ·not-nil, List·Memᴰ·cases-cons, List·Memᴰ·eq-of-singleton, Memᴰ·of-map, Memᴰ·map, Memᴰ·append-right, Memᴰ·cast}
-use native.Mathlib.Omega.{arith}
+use mathlib.Core.List.{List, [], _∷_, _++_, map, List·Memᴰ·head, List·Memᴰ·tail, List·Memᴰ·not-nil, List·Memᴰ·cases-cons, Memᴰ·of-map, Memᴰ·map, Memᴰ·cast}
 use lib.ListN.{length, length-map}
 use Rattle.definitions.specs.Words.{keep, elem}
 use Rattle.definitions.specs.Mesh.{next, org, tip, opp, leaving}
 use Rattle.definitions.specs.Labels.{seen}
-use Rattle.laws.specs.Lists.{_∈_, tested, elem-true, true-elem, false-elem, in-split, in-keep, keep-same}
-use Rattle.laws.specs.Counting.{Distinct, nil, cons, distinct-within}
+use Rattle.laws.specs.Lists.{_∈_, tested, elem-true, true-elem, false-elem, in-split, keep-same}
 use Rattle.laws.specs.Edges.{Dist}
 use Rattle.laws.specs.Mapped.{keep-map}
 use Rattle.sphere.specs.Sphere.{Sphere}
-use Rattle.sphere.specs.Rows.{in-leaving}
-use Rattle.sphere.specs.Turns.{tip-opp}
 use Rattle.peeling.specs.Inside.{Path, path-split, path-end, path-tip, Inv}
 use Rattle.peeling.specs.Vertices.{state}
 use Rattle.tables.specs.Tables.{Tables}
 use Rattle.peelwork.specs.Counts.{tip-is, met}
+use Rattle.peelwork.specs.Work.{near}
+use Rattle.peelwork.specs.Marks.{Beside}
 use Rattle.peelwork.specs.Entering.{Marked}
 use Rattle.peelwork.specs.Passing.{Coded}
 
@@ -79,6 +77,16 @@ pub record Stood (n : ℕ) (ts R D P : List ℕ) (t : Tables) : Type 0 where
   pub counts : (x : ℕ) → x ∈ D → t .count (tip ts x) ≡ x
   pub old : (x : ℕ) → x ∈ P → org ts x ∈ R
 
+pub stood-same : {n : ℕ} {ts R D P : List ℕ} {t t′ : Tables} → Beside t t′ → ((x : ℕ) → near t′ x ≡ near t x) → Stood n ts R D P t → Stood n ts R D P t′
+stood-same {ts = ts} b e st =
+    record {
+      coded = λ d h. b .ops d ∙ st .coded d h;
+      marked = λ w h. e w ∙ st .marked w h;
+      heads = λ x m. b .heads (org ts x) ∙ st .heads x m;
+      counts = λ x m. b .counts (tip ts x) ∙ st .counts x m;
+      old = st .old;
+    }
+
 module _ (n : ℕ) (ts : List ℕ) (s : Sphere n (length ts / 3) (org ts) (opp ts)) (len : 3 * (length ts / 3) ≡ length ts) {R D : List ℕ} (v : Inv n (length ts / 3) (org ts) (opp ts) R D) where
   abbrev T : ℕ
   T = length ts / 3
@@ -121,27 +129,6 @@ module _ (n : ℕ) (ts : List ℕ) (s : Sphere n (length ts / 3) (org ts) (opp t
             let t = split o (o z) (o (next z)) D (v .path) (r .0) m (λ e. b (sym (r .2) ∙ e)) in
             (t .0, r .0, t .1, t .2, t .3, r .2, t .4 ∙ r .2)
       ]
-
-  -- and so it has two frontier neighbours at least
-  pub met-two : (w : ℕ) → on ts D w ≡ true → w ≢ o z → w ≢ o (next z) → 2 ≤ met ts (on ts D) w
-  unfolding met
-  met-two w q a b =
-      let r = beside w q a b in
-      let e = r .1 in
-      let e′ = r .2 in
-      let there : (x : ℕ) → x ∈ r .0 ++ e ∷ e′ ∷ r .3 → x ∈ z ∷ D = λ x m. List·Memᴰ·tail {xs = D} (rw (r .4) m) in
-      let em : e ∈ z ∷ D = there e (Memᴰ·append-right (r .0) (List·Memᴰ·head refl)) in
-      let em′ : e′ ∈ z ∷ D = there e′ (Memᴰ·append-right (r .0) (List·Memᴰ·tail (List·Memᴰ·head refl))) in
-      let eb = v .this e em .below in
-      let eb′ = v .this e′ em′ .below in
-      let f = opp ts e′ in
-      let fb : f < 3 * T = s .dart e′ eb′ in
-      let K = keep (λ d. on ts D (tip ts d)) (leaving ts w) in
-      let ek : e ∈ K = in-keep (λ d. on ts D (tip ts d)) (in-leaving ts w e (omega arith) (r .5)) (tip-on e em) in
-      let fk : f ∈ K =
-      in-keep (λ d. on ts D (tip ts d)) (in-leaving ts w f (omega arith) (s .turned e′ eb′ ∙ r .6)) (rw (tip-is ts f ∙ tip-opp s e′ eb′) (true-on ts D e′ em′)) in
-      let pair : Distinct (e ∷ f ∷ []) = cons {x = e} (λ m. let p : e ≡ f = List·Memᴰ·eq-of-singleton m in v .that e′ em′ (rw p at (v .this e em))) (cons {x = f} List·Memᴰ·not-nil nil) in
-      distinct-within pair K (λ x m. elim (List·Memᴰ·cases-cons m) [ inl p ↦ Memᴰ·cast p ek | inr k ↦ Memᴰ·cast (List·Memᴰ·eq-of-singleton k) fk ])
 
   -- the definition's remaining neighbours on the frontier are as many
   pub seen-met : (P : List ℕ) (w : ℕ) → length (seen ts (state ts R D P) w) ≡ met ts (on ts D) w

@@ -1,5 +1,5 @@
 -- A vertex leaves: what the tables hold after it, of the new frontier, of the labels and of the vertices that have left. Assumes nothing.
-use Prim.Native.Nat.{ℕ, _+_, _*_, _/_, _≤_, _<_, min}
+use Prim.Native.Nat.{ℕ, _+_, _*_, _/_, _%_, _≤_, _<_}
 use mathlib.Core.Path.{_≡_, refl, sym, ap, _∙_}
 use mathlib.Core.Logic.{_≢_, _⊎_, inl, inr}
 use mathlib.Core.Bool.{Bool, true, false, not, _&&_, _||_}
@@ -22,7 +22,7 @@ use Rattle.realizer.specs.Edges.{edge-is}
 use Rattle.peeling.specs.Fan.{Leaves}
 use Rattle.peeling.specs.Peel.{rest}
 use Rattle.tables.specs.Tables.{Tables}
-use Rattle.peelwork.specs.Work.{Work, fan, gone, leave}
+use Rattle.peelwork.specs.Work.{fan, gone, leave}
 use Rattle.peelwork.specs.Counts.{tip-is}
 use Rattle.peelwork.specs.Entering.{Marked}
 use Rattle.peelwork.specs.Losing.{gone-order, gone-earlier, gone-op, gone-head, gone-count, gone-marks}
@@ -229,15 +229,12 @@ module _ (n : ℕ) (ts : List ℕ) (s : Sphere n (length ts / 3) (org ts) (opp t
     abbrev v′ : ℕ
     v′ = o e
 
-    abbrev low : ℕ
-    low = min v′ (min (tip ts e) (tip ts q))
-
     abbrev t₀ : Tables
     t₀ = gone i v′ (tip ts e) (tip ts q) t
 
-    -- the work after the vertex has left
-    abbrev w : Work
-    w = leave ts i v′ t
+    -- the tables after the vertex has left
+    abbrev t′ : Tables
+    t′ = leave ts i v′ t
 
     pub head-is : t .head v′ ≡ e
     head-is = st .heads e (l .this)
@@ -245,9 +242,9 @@ module _ (n : ℕ) (ts : List ℕ) (s : Sphere n (length ts / 3) (org ts) (opp t
     pub count-is : t .count v′ ≡ e′
     count-is = ap (t .count) (l .meet ∙ sym (tip-is ts e′)) ∙ st .counts e′ (l .that)
 
-    leave-is : w ≡ fan ts (tip ts q) (length ts) e low t₀
+    leave-is : t′ ≡ fan ts (tip ts q) (length ts) e t₀
     unfolding leave
-    leave-is = rw (head-is, count-is, sym q-tip)
+    leave-is = let g : t .head v′ % 65536 ≡ e = omega (arith, head-is, eb, len, few) in rw (g, count-is, sym q-tip)
 
     coded₀ : Coded ts P t₀
     coded₀ d b = gone-op i v′ (tip ts e) (tip ts q) t d ∙ st .coded d b
@@ -278,29 +275,29 @@ module _ (n : ℕ) (ts : List ℕ) (s : Sphere n (length ts / 3) (org ts) (opp t
     short : length gs ≤ length ts
     short = omega (arith, distinct-within (l .distinct) (upto (length ts)) (λ g m. in-upto (length ts) g (omega (arith, gb g m))), length-upto (length ts))
 
-    pub done : Fanned n ts s len few P F₀ gs low t₀ w
-    done = rw leave-is (fanned n ts s len few v′ q (tip ts q) refl (l .fan) (length ts) low P F₀ t₀ short coded₀ marked₀ fresh₀)
+    pub done : Fanned n ts s len few P F₀ gs t₀ t′
+    done = rw leave-is (fanned n ts s len few v′ q (tip ts q) refl (l .fan) (length ts) P F₀ t₀ short coded₀ marked₀ fresh₀)
 
     -- what a vertex that has left had is kept
-    pub head-kept : (r : ℕ) → r ∈ v′ ∷ R → w .tables .head r ≡ t .head r
+    pub head-kept : (r : ℕ) → r ∈ v′ ∷ R → t′ .head r ≡ t .head r
     head-kept r m =
         done .head-old r (λ g k p. prev-there g k (Memᴰ·cast (sym (p ∙ across-org n ts s len few g (gb g k))) m)) ∙ gone-head i v′ (tip ts e) (tip ts q) t r
 
-    pub count-kept : (r : ℕ) → r ∈ v′ ∷ R → w .tables .count r ≡ t .count r
+    pub count-kept : (r : ℕ) → r ∈ v′ ∷ R → t′ .count r ≡ t .count r
     count-kept r m =
         done .count-old r (λ g k p. tip-there g k (Memᴰ·cast (sym (p ∙ across-tip n ts s len few g (gb g k))) m)) ∙ gone-count i v′ (tip ts e) (tip ts q) t r
 
-    pub order-here : w .tables .mark (2 * i + 1) ≡ v′
+    pub order-here : t′ .mark (2 * i + 1) ≡ v′
     order-here = done .order i ∙ gone-order i v′ (tip ts e) (tip ts q) t
 
-    pub order-kept : (j : ℕ) → j ≢ i → w .tables .mark (2 * j + 1) ≡ t .mark (2 * j + 1)
+    pub order-kept : (j : ℕ) → j ≢ i → t′ .mark (2 * j + 1) ≡ t .mark (2 * j + 1)
     order-kept j h = done .order j ∙ gone-earlier i v′ (tip ts e) (tip ts q) t j h
 
     -- the new frontier's darts
     edge-of : (g : ℕ) → g ∈ gs → across n ts s len few g ∈ D′
     edge-of g m = Memᴰ·cast (sym (edge-is T o (opp ts) g)) (l .edges g m)
 
-    new-heads : (x : ℕ) → x ∈ D′ → w .tables .head (o x) ≡ x
+    new-heads : (x : ℕ) → x ∈ D′ → t′ .head (o x) ≡ x
     new-heads x m =
         elim (decIn (o x) (map (λ g. o (across n ts s len few g)) gs)) [
           | yes k ↦
@@ -317,7 +314,7 @@ module _ (n : ℕ) (ts : List ℕ) (s : Sphere n (length ts / 3) (org ts) (opp t
     same-tips : (x y : ℕ) → x ∈ D′ → y ∈ D′ → tip ts x ≡ tip ts y → x ≡ y
     same-tips x y m k p = tips-once o z D′ (o (next z)) (l .path) (l .differ) x y m k (sym (tip-is ts x) ∙ p ∙ tip-is ts y)
 
-    new-counts : (x : ℕ) → x ∈ D′ → w .tables .count (tip ts x) ≡ x
+    new-counts : (x : ℕ) → x ∈ D′ → t′ .count (tip ts x) ≡ x
     new-counts x m =
         elim (decIn (tip ts x) (map (λ g. tip ts (across n ts s len few g)) gs)) [
           | yes k ↦
@@ -332,11 +329,11 @@ module _ (n : ℕ) (ts : List ℕ) (s : Sphere n (length ts / 3) (org ts) (opp t
         ]
 
     -- the tables after the vertex has left
-    pub stands : Stood n ts (v′ ∷ R) D′ (P ++ gs) (w .tables)
+    pub stands : Stood n ts (v′ ∷ R) D′ (P ++ gs) t′
     stands =
         record {
           coded = done .coded;
-          marked = marked-same n ts F₁ (on ts D′) (w .tables) new-on (done .marked);
+          marked = marked-same n ts F₁ (on ts D′) t′ new-on (done .marked);
           heads = new-heads;
           counts = new-counts;
           old = λ x m. elim (List·Memᴰ·append-cases P m) [ inl k ↦ List·Memᴰ·tail (st .old x k) | inr k ↦ List·Memᴰ·head (l .from x k) ];

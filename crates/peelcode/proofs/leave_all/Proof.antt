@@ -7,10 +7,10 @@ use Rattle.peelcode.proofs.leave_all.Statement.{statement}
 use Rattle.peelcode.proofs.leave_all.Tie as tie
 
 abbrev Inv-loop : tie.InvT-loop
-Inv-loop triangles s₀ n low₀ i₀ s low i = Turning triangles n s₀ s i low
+Inv-loop triangles s₀ n i₀ s i = Turning triangles n s₀ s i
 
 abbrev μ-loop : tie.MeasureT-loop
-μ-loop triangles s₀ n low₀ i₀ s low i = n - i
+μ-loop triangles s₀ n i₀ s i = n - i
 
 loop-holds : tie.Need-loop-holds Inv-loop μ-loop
 loop-holds c = turning-none _ (c .before .args .n) (c .before .args .s .now)
@@ -28,13 +28,13 @@ loop-less : tie.Need-loop-less Inv-loop μ-loop
 loop-less c = omega (arith, c .before .before .before .loop-test .taken)
 
 loop-again : tie.Need-loop-again Inv-loop μ-loop
-loop-again c = record { long = c .before .turn .kept .1 .0 ∙ c .before .before .before .before .loop .inv .long; within = omega (arith, c .before .before .before .loop-test .taken); rest = all-more _ (c .before .before .before .before .before .before .args .n) (c .before .before .before .before .loop .i) (c .before .before .before .before .loop .low) _ _ (c .before .turn .result) _ (c .before .before .before .loop-test .taken) (c .before .turn .ensures) (c .before .before .before .before .loop .inv .rest) }
+loop-again c = record { long = c .before .turn .kept .1 .0 ∙ c .before .before .before .before .loop .inv .long; within = omega (arith, c .before .before .before .loop-test .taken); rest = all-more _ (c .before .before .before .before .before .before .args .n) (c .before .before .before .before .loop .i) _ _ _ (c .before .before .before .loop-test .taken) (c .before .turn .ensures) (c .before .before .before .before .loop .inv .rest) }
 
 same-length : tie.Need-same-length Inv-loop μ-loop
 same-length c = c .before .loop .inv .long
 
 returns : tie.Need-returns Inv-loop μ-loop
-returns c = all-over _ (c .before .before .before .args .n) (c .before .loop .i) (c .before .loop .low) _ _ (c .loop-test .left) (c .before .loop .inv .rest)
+returns c = all-over _ (c .before .before .before .args .n) (c .before .loop .i) _ _ (c .loop-test .left) (c .before .loop .inv .rest)
 
 pub leave-all-spec : {M : Type 1} → statement M
 leave-all-spec =

@@ -9,10 +9,10 @@ use Rattle.peelcode.proofs.scan.Statement.{statement}
 use Rattle.peelcode.proofs.scan.Tie as tie
 
 abbrev Inv-loop : tie.InvT-loop
-Inv-loop triangles s n low v₀ v = scan triangles (view s) (n - v) v ≡ scan triangles (view s) (n - low) low
+Inv-loop triangles s end from v₀ v = scan triangles (view s) (end - v) v ≡ scan triangles (view s) (end - from) from
 
 abbrev μ-loop : tie.MeasureT-loop
-μ-loop triangles s n low v₀ v = n - v
+μ-loop triangles s end from v₀ v = end - v
 
 loop-holds : tie.Need-loop-holds Inv-loop μ-loop
 loop-holds c = refl
@@ -21,7 +21,7 @@ can-requires : tie.Need-can-requires Inv-loop μ-loop
 can-requires c κs = omega (arith, c .loop-test .taken, c .before .before .before .pre)
 
 returns : tie.Need-returns Inv-loop μ-loop
-returns c = scan-over _ _ (c .before .before .before .before .before .args .n) (c .before .before .before .loop .v) _ (c .before .before .loop-test .taken) (sym (c .if1 .taken) ∙ c .before .can .ensures) (c .before .before .before .loop .inv)
+returns c = scan-over _ _ (c .before .before .before .before .before .args .end) (c .before .before .before .loop .v) _ (c .before .before .loop-test .taken) (sym (c .if1 .taken) ∙ c .before .can .ensures) (c .before .before .before .loop .inv)
 
 add-v : tie.Need-add-v Inv-loop μ-loop
 add-v c = omega arith
@@ -30,12 +30,21 @@ loop-less : tie.Need-loop-less Inv-loop μ-loop
 loop-less c = omega arith
 
 loop-again : tie.Need-loop-again Inv-loop μ-loop
-loop-again c = scan-more _ _ (c .before .before .before .before .before .args .n) (c .before .before .before .loop .v) _ (c .before .before .loop-test .taken) (sym (c .if1 .left) ∙ c .before .can .ensures) (c .before .before .before .loop .inv)
+loop-again c = scan-more _ _ (c .before .before .before .before .before .args .end) (c .before .before .before .loop .v) _ (c .before .before .loop-test .taken) (sym (c .if1 .left) ∙ c .before .can .ensures) (c .before .before .before .loop .inv)
 
 returns-2 : tie.Need-returns-2 Inv-loop μ-loop
-returns-2 c = scan-none _ _ (c .before .before .before .args .n) (c .before .loop .v) _ (c .loop-test .left) (c .before .loop .inv)
+returns-2 c = scan-none _ _ (c .before .before .before .args .end) (c .before .loop .v) _ (c .loop-test .left) (c .before .loop .inv)
 
 pub scan-spec : {M : Type 1} → statement M
 scan-spec =
     tie.close
-    (tie.spec Inv-loop μ-loop loop-holds can-requires returns add-v loop-less loop-again returns-2)
+    (tie.spec
+    Inv-loop
+    μ-loop
+    loop-holds
+    can-requires
+    returns
+    add-v
+    loop-less
+    loop-again
+    returns-2)

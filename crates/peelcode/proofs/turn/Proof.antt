@@ -1,28 +1,35 @@
 -- `peelcode::turn` meets its contract. Assumes nothing.
 use native.Mathlib.Omega.{arith}
-use Rattle.peelcode.specs.Steps.{below-holds, turn-leaves, turn-stays}
+use Rattle.peelcode.specs.Steps.{holds-kept, room-kept, below-holds, turn-leaves, turn-stays}
 use borrow.Author.Needs.{needs}
 use Rattle.peelcode.proofs.turn.Statement.{statement}
 use Rattle.peelcode.proofs.turn.Tie as tie
 
-scan-requires : tie.Need-scan-requires
-scan-requires c κs = omega (arith, c .before .before .pre .1 .small)
+seek-requires : tie.Need-seek-requires
+seek-requires c κs = (c .before .before .pre .1, omega (arith, c .before .before .pre .2))
 
 leave-requires : tie.Need-leave-requires
-leave-requires c κs = (c .before .before .before .before .before .pre .0, below-holds (c .before .before .before .before .before .args .i) (c .before .before .before .before .before .pre .1) (c .before .before .before .before .before .pre .2), below-holds (c .before .before .scan .result) (c .before .before .before .before .before .pre .1) (c .before .if1 .taken))
+leave-requires c κs = (room-kept (c .before .before .before .seek .kept .1 .0) (c .before .before .before .before .before .before .pre .0), holds-kept (c .before .before .before .seek .kept .1 .0) (below-holds (c .before .before .before .before .before .before .args .i) (c .before .before .before .before .before .before .pre .1) (c .before .before .before .before .before .before .pre .2)), holds-kept (c .before .before .before .seek .kept .1 .0) (below-holds (c .before .before .before .seek .result) (c .before .before .before .before .before .before .pre .1) (c .before .if1 .taken)))
 
 same-length : tie.Need-same-length
 same-length c = search needs
 
 returns : tie.Need-returns
-returns c = turn-leaves _ (c .before .before .before .before .before .before .before .args .n) (c .before .before .before .before .before .before .before .args .i) (c .before .before .before .before .before .before .before .args .low) (c .before .before .before .before .scan .result) _ _ (c .before .before .before .before .scan .ensures) (c .before .before .before .if1 .taken) (c .before .leave .ensures)
+returns c = turn-leaves _ (c .before .before .before .before .before .before .before .before .args .n) (c .before .before .before .before .before .before .before .before .args .i) (c .before .before .before .before .before .seek .result) _ _ _ (c .before .before .before .before .before .seek .ensures) (c .before .before .before .if1 .taken) (c .before .leave .ensures)
 
 same-length-2 : tie.Need-same-length-2
 same-length-2 c = search needs
 
 returns-2 : tie.Need-returns-2
-returns-2 c = turn-stays _ (c .before .before .before .before .args .n) (c .before .before .before .before .args .i) (c .before .before .before .before .args .low) (c .before .scan .result) _ (c .before .scan .ensures) (c .if1 .left)
+returns-2 c = turn-stays _ (c .before .before .before .before .before .args .n) (c .before .before .before .before .before .args .i) (c .before .before .seek .result) _ _ (c .before .before .seek .ensures) (c .if1 .left)
 
 pub turn-spec : {M : Type 1} → statement M
 turn-spec =
-    tie.close (tie.spec scan-requires leave-requires same-length returns same-length-2 returns-2)
+    tie.close
+    (tie.spec
+    seek-requires
+    leave-requires
+    same-length
+    returns
+    same-length-2
+    returns-2)
