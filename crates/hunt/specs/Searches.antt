@@ -9,70 +9,52 @@ use native.Mathlib.Decide.{ℕ-discrete}
 use lib.Dec.{eqb}
 use lib.IntN.{ℤ}
 use borrow.Author.Tests.{eq-eqb, ne-eqb}
-use Rattle.definitions.specs.Mesh.{next, prev, org}
 use Rattle.tables.specs.Tables.{Tables}
 use Rattle.areas.specs.Areas.{badOf, raiseOf}
-use Rattle.raising.specs.Work.{apexOf, split}
-use Rattle.raising.specs.Hunt.{badAt, raiseAt, splitBad, Found}
+use Rattle.raising.specs.Laid.{part0, part1, part2}
+use Rattle.raising.specs.Hunt.{badAt, raiseAt, split, splitBad, Found}
 
--- ---- the vertices at the corners
+-- ---- the corners
 
--- g is the corner with label 2, and p, q, r are the vertices at the corners with the labels 0, 1, 2
-pub record Corners (ts : List ℕ) (T : Tables) (t g a p b q r : ℕ) : Type 0 where
-  pub top : g ≡ apexOf (T .op) t
-  pub then : a ≡ next g
-  pub zeroth : p ≡ org ts a
-  pub prior : b ≡ prev g
-  pub oneth : q ≡ org ts b
-  pub twoth : r ≡ org ts g
-
-module _ (ts : List ℕ) (T : Tables) (bs : List ℤ) (t g a p b q r : ℕ) (C : Corners ts T t g a p b q r) where
-  pub bad-by : (x : Bool) → x ≡ badOf bs p q r → x ≡ badAt ts T bs t
+-- w holds the vertices p, q, r at the corners with the labels 0, 1, 2
+module _ (S : Tables) (bs : List ℤ) (t w p q r : ℕ) (ew : w ≡ S .op (3 * t + 1)) (ep : p ≡ part0 w) (eq : q ≡ part1 w) (er : r ≡ part2 w) where
+  pub bad-by : (x : Bool) → x ≡ badOf bs p q r → x ≡ badAt S bs t
   unfolding badAt
-  bad-by x e = e ∙ rw (C .zeroth, C .oneth, C .twoth, C .then, C .prior, C .top)
+  bad-by x e = e ∙ rw (ep, eq, er, ew)
 
-  pub raise-by : (x : ℤ) → x ≡ raiseOf bs p q r → x ≡ raiseAt ts T bs t
+  pub raise-by : (x : ℤ) → x ≡ raiseOf bs p q r → x ≡ raiseAt S bs t
   unfolding raiseAt
-  raise-by x e = e ∙ rw (C .zeroth, C .oneth, C .twoth, C .then, C .prior, C .top)
+  raise-by x e = e ∙ rw (ep, eq, er, ew)
 
 -- ---- regions
 
-module _ (ts : List ℕ) (T : Tables) (t g r x a p y : ℕ) (eg : g ≡ apexOf (T .op) t) (er : r ≡ org ts g) (ex : x ≡ T .mark (2 * r))
-    (ea : a ≡ next g) (ep : p ≡ org ts a) (ey : y ≡ T .mark (2 * p)) where
-  abbrev mark2 : ℕ
-  mark2 = T .mark (2 * org ts (apexOf (T .op) t))
+module _ (S : Tables) (t w p x q y : ℕ) (ew : w ≡ S .op (3 * t + 1)) (ep : p ≡ part0 w) (ex : x ≡ S .mark (2 * p)) (eq : q ≡ part1 w) (ey : y ≡ S .mark (2 * q)) where
+  abbrev word : ℕ
+  word = S .op (3 * t + 1)
 
-  abbrev mark0 : ℕ
-  mark0 = T .mark (2 * org ts (next (apexOf (T .op) t)))
+  x-is : x ≡ S .mark (2 * part0 word)
+  x-is = ex ∙ rw (ep, ew)
 
-  abbrev mark1 : ℕ
-  mark1 = T .mark (2 * org ts (prev (apexOf (T .op) t)))
+  y-is : y ≡ S .mark (2 * part1 word)
+  y-is = ey ∙ rw (eq, ew)
 
-  x-is : x ≡ mark2
-  x-is = ex ∙ rw (er, eg)
-
-  y-is : y ≡ mark0
-  y-is = ey ∙ rw (ep, ea, eg)
-
-  pub split-0 : y ≢ x → true ≡ split ts T t
+  pub split-0 : y ≢ x → true ≡ split S t
   unfolding split
-  split-0 d = rw (ne-eqb mark0 mark2 (λ e. d (y-is ∙ e ∙ sym x-is)))
+  split-0 d = rw (ne-eqb (S .mark (2 * part1 word)) (S .mark (2 * part0 word)) (λ e. d (y-is ∙ e ∙ sym x-is)))
 
-  module _ (b q z : ℕ) (eb : b ≡ prev g) (eq : q ≡ org ts b) (ez : z ≡ T .mark (2 * q)) where
-    z-is : z ≡ mark1
-    z-is = ez ∙ rw (eq, eb, eg)
+  pub split-1 : (r z : ℕ) → r ≡ part2 w → z ≡ S .mark (2 * r) → y ≡ x → not (eqb z x) ≡ split S t
+  unfolding split
+  split-1 r z er ez e =
+      let z-is : z ≡ S .mark (2 * part2 word) = ez ∙ rw (er, ew) in
+      rw (eq-eqb (S .mark (2 * part1 word)) (S .mark (2 * part0 word)) (sym y-is ∙ e ∙ x-is), z-is, x-is)
 
-    pub split-1 : y ≡ x → not (eqb z x) ≡ split ts T t
-    unfolding split
-    split-1 e = rw (eq-eqb mark0 mark2 (sym y-is ∙ e ∙ x-is), z-is, x-is)
-
-pub split-bad : (ts : List ℕ) (T : Tables) (bs : List ℤ) (t : ℕ) (x : Bool) → split ts T t ≡ true → x ≡ badAt ts T bs t → x ≡ splitBad ts T bs t
+pub split-bad : (S : Tables) (bs : List ℤ) (t : ℕ) (x : Bool) → split S t ≡ true → x ≡ badAt S bs t → x ≡ splitBad S bs t
 unfolding splitBad
-split-bad ts T bs t x e f = f ∙ rw e
+split-bad S bs t x e f = f ∙ rw e
 
-pub unsplit : (ts : List ℕ) (T : Tables) (bs : List ℤ) (t : ℕ) → split ts T t ≡ false → false ≡ splitBad ts T bs t
+pub unsplit : (S : Tables) (bs : List ℤ) (t : ℕ) → split S t ≡ false → false ≡ splitBad S bs t
 unfolding splitBad
-unsplit ts T bs t e = rw e
+unsplit S bs t e = rw e
 
 -- ---- searches
 
@@ -107,7 +89,7 @@ module _ (p : ℕ → Bool) (a b i : ℕ) (S : Sought p a b i) where
       }
 
 -- the first bad triangle after a raise of t, in two searches
-pub record Next (ts : List ℕ) (T : Tables) (bs : List ℤ) (t to r : ℕ) : Type 0 where
+pub record Next (T : Tables) (bs : List ℤ) (full t to r : ℕ) : Type 0 where
   pub low : ℕ
-  pub lower : Found (splitBad ts T bs) 1 t low
-  pub found : Found (badAt ts T bs) low to r
+  pub lower : Found (splitBad T bs) full t low
+  pub found : Found (badAt T bs) low to r

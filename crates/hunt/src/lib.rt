@@ -1,9 +1,9 @@
 // The next bad triangle, looked for in the order of the numbers. After a raise only triangles that reach over several regions are looked at again.
-use regions::apex;
-use tables::after;
-use tables::before;
+use laying::part0;
+use laying::part1;
+use laying::part2;
 use tables::get_mark;
-use tables::vertex;
+use tables::get_op;
 ghost use mathlib.Core.Path.{_≡_};
 ghost use mathlib.Core.Bool.{false};
 ghost use Prim.Native.Nat.{_+_, _*_, _<_, _≤_};
@@ -11,68 +11,61 @@ ghost use lib.IntN.{natAbs};
 ghost use Rattle.definitions.specs.Repair.{limit};
 ghost use Rattle.definitions.specs.Refusals.{row10};
 ghost use Rattle.tables.specs.Tables.{view};
-ghost use Rattle.raising.specs.Work.{split};
-ghost use Rattle.raising.specs.Hunt.{badAt, raiseAt, splitBad, Found};
+ghost use Rattle.raising.specs.Hunt.{badAt, raiseAt, split, splitBad, Found};
 ghost use Rattle.hunt.specs.Searches.{Next};
 
 // triangle t is flat or turned
-fn is_bad(triangles: &[u16], s: &[i64], coordinates: &[i64], t: usize) -> bool
+fn is_bad(s: &[i64], coordinates: &[i64], t: usize) -> bool
     requires { ⌜ (t < 65536) × (row10 (now coordinates) ≡ false) ⌝ }
-    ensures { λ x. ⌜ x ≡ badAt (now (triangles .entry)) (view (now (s .entry))) (now (coordinates .entry)) t ⌝ }
+    ensures { λ x. ⌜ x ≡ badAt (view (now (s .entry))) (now (coordinates .entry)) t ⌝ }
 {
-    let g = apex(s, t);
-    let p = vertex(triangles, after(g));
-    let q = vertex(triangles, before(g));
-    let r = vertex(triangles, g);
-    areas::bad_at(coordinates, p, q, r)
+    let w = get_op(s, 3 * t + 1);
+    areas::bad_at(coordinates, part0(w), part1(w), part2(w))
 }
 
 // what it is to be raised by
-pub fn raise_at(triangles: &[u16], s: &[i64], coordinates: &[i64], t: usize) -> i64
+pub fn raise_at(s: &[i64], coordinates: &[i64], t: usize) -> i64
     requires { ⌜ (t < 65536) × (row10 (now coordinates) ≡ false) ⌝ }
-    ensures is { λ x. ⌜ x ≡ raiseAt (now (triangles .entry)) (view (now (s .entry))) (now (coordinates .entry)) t ⌝ }
+    ensures is { λ x. ⌜ x ≡ raiseAt (view (now (s .entry))) (now (coordinates .entry)) t ⌝ }
     ensures small { λ x. ⌜ natAbs x ≤ 2 * limit + 1 ⌝ }
 {
-    let g = apex(s, t);
-    let p = vertex(triangles, after(g));
-    let q = vertex(triangles, before(g));
-    let r = vertex(triangles, g);
-    areas::raise_of(coordinates, p, q, r)
+    let w = get_op(s, 3 * t + 1);
+    areas::raise_of(coordinates, part0(w), part1(w), part2(w))
 }
 
 // its corners do not all lie in one region
-fn is_split(triangles: &[u16], s: &[i64], t: usize) -> bool
+fn is_split(s: &[i64], t: usize) -> bool
     requires { ⌜ t < 65536 ⌝ }
-    ensures { λ x. ⌜ x ≡ split (now (triangles .entry)) (view (now (s .entry))) t ⌝ }
+    ensures { λ x. ⌜ x ≡ split (view (now (s .entry))) t ⌝ }
 {
-    let g = apex(s, t);
-    let a = get_mark(s, 2 * vertex(triangles, g));
-    let b = get_mark(s, 2 * vertex(triangles, after(g)));
+    let w = get_op(s, 3 * t + 1);
+    let a = get_mark(s, 2 * part0(w));
+    let b = get_mark(s, 2 * part1(w));
     if b == a {
-        let c = get_mark(s, 2 * vertex(triangles, before(g)));
+        let c = get_mark(s, 2 * part2(w));
         return c != a;
     }
     true
 }
 
-fn is_split_bad(triangles: &[u16], s: &[i64], coordinates: &[i64], t: usize) -> bool
+fn is_split_bad(s: &[i64], coordinates: &[i64], t: usize) -> bool
     requires { ⌜ (t < 65536) × (row10 (now coordinates) ≡ false) ⌝ }
-    ensures { λ x. ⌜ x ≡ splitBad (now (triangles .entry)) (view (now (s .entry))) (now (coordinates .entry)) t ⌝ }
+    ensures { λ x. ⌜ x ≡ splitBad (view (now (s .entry))) (now (coordinates .entry)) t ⌝ }
 {
-    if is_split(triangles, s, t) {
-        return is_bad(triangles, s, coordinates, t);
+    if is_split(s, t) {
+        return is_bad(s, coordinates, t);
     }
     false
 }
 
 // the first bad triangle from `from` on, or `to`
-pub fn first_bad(triangles: &[u16], s: &[i64], coordinates: &[i64], from: usize, to: usize) -> usize
+pub fn first_bad(s: &[i64], coordinates: &[i64], from: usize, to: usize) -> usize
     requires { ⌜ (from ≤ to) × (to < 65536) × (row10 (now coordinates) ≡ false) ⌝ }
-    ensures { λ r. ⌜ Found (badAt (now (triangles .entry)) (view (now (s .entry))) (now (coordinates .entry))) from to r ⌝ }
+    ensures { λ r. ⌜ Found (badAt (view (now (s .entry))) (now (coordinates .entry))) from to r ⌝ }
 {
     let mut i = from;
     while i < to {
-        if is_bad(triangles, s, coordinates, i) {
+        if is_bad(s, coordinates, i) {
             return i;
         }
         i += 1;
@@ -80,14 +73,14 @@ pub fn first_bad(triangles: &[u16], s: &[i64], coordinates: &[i64], from: usize,
     to
 }
 
-// the first triangle below `to` that is bad and reaches over several regions, or `to`
-fn first_split(triangles: &[u16], s: &[i64], coordinates: &[i64], to: usize) -> usize
-    requires { ⌜ (1 ≤ to) × (to < 65536) × (row10 (now coordinates) ≡ false) ⌝ }
-    ensures { λ r. ⌜ Found (splitBad (now (triangles .entry)) (view (now (s .entry))) (now (coordinates .entry))) 1 to r ⌝ }
+// the first triangle from `from` on that is bad and reaches over several regions, or `to`
+fn first_split(s: &[i64], coordinates: &[i64], from: usize, to: usize) -> usize
+    requires { ⌜ (from ≤ to) × (to < 65536) × (row10 (now coordinates) ≡ false) ⌝ }
+    ensures { λ r. ⌜ Found (splitBad (view (now (s .entry))) (now (coordinates .entry))) from to r ⌝ }
 {
-    let mut i = 1;
+    let mut i = from;
     while i < to {
-        if is_split_bad(triangles, s, coordinates, i) {
+        if is_split_bad(s, coordinates, i) {
             return i;
         }
         i += 1;
@@ -95,11 +88,11 @@ fn first_split(triangles: &[u16], s: &[i64], coordinates: &[i64], to: usize) -> 
     to
 }
 
-// the first bad triangle after a raise of t, below which none was bad; `to`, if there is none
-pub fn next_bad(triangles: &[u16], s: &[i64], coordinates: &[i64], t: usize, to: usize) -> usize
-    requires { ⌜ (1 ≤ t) × (t ≤ to) × (to < 65536) × (row10 (now coordinates) ≡ false) ⌝ }
-    ensures { λ r. ⌜ Next (now (triangles .entry)) (view (now (s .entry))) (now (coordinates .entry)) t to r ⌝ }
+// the first bad triangle after a raise of t, below which none was bad; `to`, if there is none. Those below `full` are not looked at.
+pub fn next_bad(s: &[i64], coordinates: &[i64], full: usize, t: usize, to: usize) -> usize
+    requires { ⌜ (full ≤ t) × (t ≤ to) × (to < 65536) × (row10 (now coordinates) ≡ false) ⌝ }
+    ensures { λ r. ⌜ Next (view (now (s .entry))) (now (coordinates .entry)) full t to r ⌝ }
 {
-    let low = first_split(triangles, s, coordinates, t);
-    first_bad(triangles, s, coordinates, low, to)
+    let low = first_split(s, coordinates, full, t);
+    first_bad(s, coordinates, low, to)
 }

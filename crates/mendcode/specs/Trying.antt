@@ -14,10 +14,10 @@ use Rattle.definitions.specs.Refusals.{row10}
 use Rattle.laws.specs.Lists.{getD-in, totalAbs-in, totalAbs-set}
 use Rattle.tables.specs.Tables.{view}
 use Rattle.raising.specs.Regions.{Grown}
-use Rattle.raising.specs.Work.{regions}
+use Rattle.raising.specs.Laid.{found}
 use Rattle.raising.specs.Hunt.{raiseAt}
-use Rattle.raising.specs.Mends.{Ready}
-use Rattle.regions.specs.Turns.{Room, Places}
+use Rattle.raising.specs.Ready.{Ready}
+use Rattle.regions.specs.Turns.{Findable}
 
 -- ---- weights
 
@@ -58,7 +58,6 @@ sum-is ws t sum x w y old new S ew ey eo en =
 -- ---- one raise
 
 pub record Raisable (n : ℕ) (ts : List ℕ) (ws bs s : List ℤ) (t sum : ℕ) : Type 0 where
-  pub some : 2 ≤ n
   pub few : n ≤ 4096
   pub positive : 0 < t
   pub inside : t ≤ length ws
@@ -67,23 +66,22 @@ pub record Raisable (n : ℕ) (ts : List ℕ) (ws bs s : List ℤ) (t sum : ℕ)
   pub light : totalAbs ws ≤ limit
   pub long : length bs ≡ 3 * n
   pub within : row10 bs ≡ false
-  pub room : Room ts (length s)
-  pub places : Places (view s) (n - 2) (length s)
-  pub below : (v : ℕ) → v < n → regions ts n t (view s) .mark (2 * v) < 3
+  pub findable : Findable n ts s t
+  pub below : (v : ℕ) → v < n → found ts n t (view s) .mark (2 * v) < 3
 
 -- r is the sum with the raise; past the limit nothing has changed, otherwise the raise is made
 pub record Tried (n : ℕ) (ts : List ℕ) (ws bs s ws′ bs′ s′ : List ℤ) (t r : ℕ) : Type 0 where
-  pub sum : r ≡ totalAbs (addTo ws t (raiseAt ts (view s) bs t))
+  pub sum : r ≡ totalAbs (addTo ws t (raiseAt (view s) bs t))
   pub kept : limit < r → (ws′ ≡ ws) × (bs′ ≡ bs) × (s′ ≡ s)
   pub made : r ≤ limit →
-      (ws′ ≡ addTo ws t (raiseAt ts (view s) bs t)) × (view s′ ≡ regions ts n t (view s))
-      × Grown n (λ v. view s′ .mark (2 * v)) (raiseAt ts (view s) bs t) bs bs′
+      (ws′ ≡ addTo ws t (raiseAt (view s) bs t)) × (view s′ ≡ found ts n t (view s))
+      × Grown n (λ v. view s′ .mark (2 * v)) (raiseAt (view s) bs t) bs bs′
 
-module _ (n : ℕ) (ts : List ℕ) (ws bs s : List ℤ) (t r : ℕ) (x : ℤ) (ex : x ≡ raiseAt ts (view s) bs t) (er : r ≡ totalAbs (addTo ws t x)) where
+module _ (n : ℕ) (ts : List ℕ) (ws bs s : List ℤ) (t r : ℕ) (x : ℤ) (ex : x ≡ raiseAt (view s) bs t) (er : r ≡ totalAbs (addTo ws t x)) where
   pub tried-kept : limit < r → Tried n ts ws bs s ws bs s t r
   tried-kept h = record { sum = rw ex at er; kept = λ l. (refl, refl, refl); made = λ l. absurd (omega arith) }
 
-  pub tried-made : (ws′ bs′ s′ : List ℤ) → r ≤ limit → ws′ ≡ addTo ws t x → view s′ ≡ regions ts n t (view s) → Grown n (λ v. view s′ .mark (2 * v)) x bs bs′ →
+  pub tried-made : (ws′ bs′ s′ : List ℤ) → r ≤ limit → ws′ ≡ addTo ws t x → view s′ ≡ found ts n t (view s) → Grown n (λ v. view s′ .mark (2 * v)) x bs bs′ →
       Tried n ts ws bs s ws′ bs′ s′ t r
   tried-made ws′ bs′ s′ h ew es G = record { sum = rw ex at er; kept = λ l. absurd (omega arith); made = λ l. (rw ex at ew, es, rw ex at G) }
 

@@ -1,4 +1,4 @@
-// The loop of repair on a mesh whose trace is in scratch. The coordinates lent are those of the weights all the time: a raise adds to one coordinate of
+// The loop of repair on a mesh whose trace is laid out in scratch. The coordinates lent are those of the weights all the time: a raise adds to one coordinate of
 // each vertex, by its region. The sum of the weights' absolute values is kept up to date, so that the raise that would break 9 is not made.
 use tables::get_mark;
 ghost use mathlib.Core.Path.{_≡_};
@@ -11,7 +11,8 @@ ghost use Rattle.definitions.specs.Forward.{forward};
 ghost use Rattle.definitions.specs.Repair.{limit, addTo};
 ghost use Rattle.tables.specs.Tables.{view};
 ghost use Rattle.raising.specs.Regions.{Grown};
-ghost use Rattle.raising.specs.Mends.{Ready};
+ghost use Rattle.raising.specs.Ready.{Ready};
+ghost use Rattle.raising.specs.Mends.{Passed};
 ghost use Rattle.mendcode.specs.Growing.{Growable};
 ghost use Rattle.mendcode.specs.Trying.{Summable, Raisable, Tried, Mendable};
 ghost use Rattle.mendcode.specs.Told.{Ends};
@@ -69,7 +70,7 @@ fn try_raise(
     requires { ⌜ Raisable n (now triangles) (now weights) (now coordinates) (now s) t sum ⌝ }
     ensures { λ r. ⌜ Tried n (now (triangles .entry)) (now (weights .entry)) (now (coordinates .entry)) (now (s .entry)) (now (weights .exit)) (now (coordinates .exit)) (now (s .exit)) t r ⌝ }
 {
-    let x = hunt::raise_at(triangles, s, coordinates, t);
+    let x = hunt::raise_at(s, coordinates, t);
     let new = sum_after(weights, t, sum, x);
     if new > 1_073_741_823 {
         return new;
@@ -80,7 +81,16 @@ fn try_raise(
     new
 }
 
-// While some inner triangle is bad, the lowest-numbered one is raised.
+// Triangles below `full` are fully extended, and t has been raised: below what all are extended now.
+fn passed(full: usize, t: usize) -> usize
+    requires { ⌜ (full ≤ t) × (t < 65536) ⌝ }
+    ensures { λ r. ⌜ Passed full t r ⌝ }
+{
+    if full == t { t + 1 } else { full }
+}
+
+// While some inner triangle is bad, the lowest-numbered one is raised. An extended triangle stays so; those that all are, up to the first that is not, are
+// not looked at again.
 pub fn mend(
     n: usize,
     triangles: &[u16],
@@ -96,7 +106,8 @@ pub fn mend(
     let end = 2 * n - 4;
     let mut total = sum;
     let mut count = 0;
-    let mut t = hunt::first_bad(triangles, s, coordinates, 1, end);
+    let mut full = 1;
+    let mut t = hunt::first_bad(s, coordinates, 1, end);
     while t < end {
         let tried = try_raise(n, triangles, weights, coordinates, s, t, total);
         if tried > 1_073_741_823 {
@@ -104,7 +115,9 @@ pub fn mend(
         }
         total = tried;
         count += 1;
-        t = hunt::next_bad(triangles, s, coordinates, t, end);
+        let next = hunt::next_bad(s, coordinates, full, t, end);
+        full = passed(full, t);
+        t = next;
     }
     Ended::Mended(count)
 }

@@ -17,9 +17,13 @@ use Rattle.definitions.specs.Refusals.{row9}
 use Rattle.laws.specs.Lists.{clash}
 use Rattle.tables.specs.Tables.{Tables, view, setMark}
 use Rattle.limits.specs.Limits.{Summed, summed-more, summed-past}
-use Rattle.stage.specs.Stage.{Peeled}
+use Rattle.crossings.specs.Tests.{named}
+use Rattle.stage.specs.Stage.{Peeled, across-is, tag-is}
+use Rattle.raising.specs.Order.{leaver-below}
 use Rattle.raising.specs.Walked.{Framed, framed-none, framed-then, framed-set, mark-set, mark-unset}
-use Rattle.raising.specs.Mends.{Ready, peeled-framed}
+use Rattle.raising.specs.Laid.{Laid, laid-framed}
+use Rattle.raising.specs.Ready.{Ready}
+use Rattle.laying.specs.Turns.{Layable}
 use Rattle.mendcode.specs.Trying.{Mendable}
 
 -- ---- no signs at the first v vertices
@@ -71,20 +75,44 @@ pub record Startable (n : ℕ) (ts : List ℕ) (ws bs s : List ℤ) : Type 0 whe
   pub coordinates : length bs ≡ coordinatesLength n
   pub room : 10 * n ≤ length s
 
--- a wiped mesh is ready
-pub ready : (n : ℕ) (ts ls : List ℕ) (s s′ : List ℤ) → Peeled n ts ls s → Wiped (view s) (view s′) n → Ready n ts ls s′
-ready n ts ls s s′ P w = record { peeled = peeled-framed n ts ls s s′ (w .framed) P; clean = λ i h. omega (arith, w .zero i h) }
+-- its words can be laid out
+pub layable : (n : ℕ) (ts ls : List ℕ) (s : List ℤ) → Peeled n ts ls s → 10 * n ≤ length s → Layable n s
+layable n ts ls s P room =
+    let l = P .labelled in
+    record {
+      some = l .sphere .least;
+      few = l .most;
+      room = room;
+      low = λ k h. omega (arith, leaver-below (l .sphere) (P .realizer) (named ts) (view s) (P .stored) k h, l .most);
+    }
+
+-- laid out and wiped it is ready
+pub ready : (n : ℕ) (ts ls : List ℕ) (s s₁ s₂ : List ℤ) → Peeled n ts ls s → Laid n ts (view s) (view s₁) → Wiped (view s₁) (view s₂) n → Ready n ts ls s₂
+ready n ts ls s s₁ s₂ P L w =
+    let l = P .labelled in
+    record {
+      most = l .most;
+      size = l .size;
+      sphere = l .sphere;
+      realizer = P .realizer;
+      tables = view s;
+      stored = P .stored;
+      across-is = across-is l;
+      tag-is = tag-is l;
+      laid = laid-framed (w .framed) L;
+      clean = λ i h. omega (arith, w .zero i h);
+    }
 
 light-is : (ws : List ℤ) → row9 ws ≡ false → totalAbs ws ≤ limit
 unfolding row9
 light-is ws e = ltb-false limit (totalAbs ws) e
 
-pub mendable : (n : ℕ) (ts : List ℕ) (ws bs bs′ s s′ : List ℤ) (sum : ℕ) (S : Startable n ts ws bs s) → Wiped (view s) (view s′) n → length s′ ≡ length s →
-    bs′ ≡ forward n ts (S .labels) ws → sum ≡ totalAbs ws → Mendable n ts ws bs′ s′ sum
-mendable n ts ws bs bs′ s s′ sum S w long drawn summed =
+pub mendable : (n : ℕ) (ts : List ℕ) (ws bs bs′ s s₁ s₂ : List ℤ) (sum : ℕ) (S : Startable n ts ws bs s) → Laid n ts (view s) (view s₁) → Wiped (view s₁) (view s₂) n →
+    length s₂ ≡ length s → bs′ ≡ forward n ts (S .labels) ws → sum ≡ totalAbs ws → Mendable n ts ws bs′ s₂ sum
+mendable n ts ws bs bs′ s s₁ s₂ sum S L w long drawn summed =
     record {
       labels = S .labels;
-      ready = ready n ts (S .labels) s s′ (S .peeled) w;
+      ready = ready n ts (S .labels) s s₁ s₂ (S .peeled) L w;
       drawn = drawn;
       long = S .weights;
       summed = summed;

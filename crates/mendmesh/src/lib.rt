@@ -1,4 +1,4 @@
-// Repair on a peeled mesh: the coordinates of the lent weights first, then the loop.
+// Repair on a peeled mesh: the coordinates of the lent weights first, then the words that a raise reads, then the loop.
 use mendcode::Ended;
 ghost use mathlib.Core.Path.{_≡_};
 ghost use mathlib.Core.Bool.{false};
@@ -51,6 +51,7 @@ pub fn mend_mesh(
         Ends n (now (triangles .entry)) ls (now (weights .entry)) (now (weights .exit)) (now (coordinates .exit)) r) ⌝ }
 {
     foremap::write_coordinates(n, triangles, s, weights, coordinates);
+    laying::lay(n, triangles, s);
     wipe(n, s);
     let sum = total_of(weights);
     mendcode::mend(n, triangles, weights, coordinates, s, sum)

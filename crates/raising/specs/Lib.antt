@@ -4,5 +4,7 @@ pub mod Order
 pub mod Work
 pub mod Walked
 pub mod Settled
+pub mod Laid
+pub mod Ready
 pub mod Hunt
 pub mod Mends

@@ -52,7 +52,7 @@ unfolding setMark
 mark-unset v x T i d = upd-other (2 * v) (2 * i) x (T .mark) (omega arith)
 
 module _ (f : ℕ → ℕ) (sign : ℕ → ℕ) (o v : ℕ) (T : Tables) where
-  note-framed : Framed T (note f sign o v T)
+  pub note-framed : Framed T (note f sign o v T)
   unfolding note
   note-framed =
       elim (tested (eqb (f v) o)) [
@@ -124,7 +124,7 @@ unfolding rightOf withLeft
 right-left m = omega arith
 
 module _ (ts : List ℕ) where
-  both-framed : (o : ℕ) (T : Tables) → Framed T (noteBoth ts o T)
+  pub both-framed : (o : ℕ) (T : Tables) → Framed T (noteBoth ts o T)
   unfolding noteBoth noteLeft noteRight
   both-framed o T =
       framed-then (note-framed (T .head) withLeft o (org ts o) T)
@@ -234,6 +234,13 @@ module _ {n : ℕ} (ts ls : List ℕ) (sph : Sphere n (length ts / 3) (org ts) (
             ∙ ap (λ (x : ℕ). next g ∷ walk ts ls k (tri x)) (sym e),
         e,
       )
+
+  -- it comes to a triangle
+  pub into-below : (t : ℕ) → 0 < t → t < length ts / 3 → tri (into w t) < length ts / 3
+  into-below t z h =
+      let g = apexOf w t in
+      tri-below (length ts / 3) (into w t)
+      (rw (walk-step 0 t z h .1) (sph .dart (next g) (next-below (length ts / 3) g (apex-below t z h .below))))
 
   -- a step goes along the side of e, which is not its own dart, exactly if it comes in by e
   step-near : (g e : ℕ) → Top g → e < 3 * (length ts / 3) → next g ≢ e → near (opp ts) (next g) e ≡ bit (eqb (opp ts (next g)) e)

@@ -2,7 +2,7 @@
 -- `mark (2 * v)` is the region of vertex v, 0, 1 or 2. While a raise finds the regions, 4 in it says that the walk of the raised triangle crosses the side
 -- by which v's colour-0 path begins, and 8 the same of its colour-1 path. `head`, `count` and `mark (2 * k + 1)` hold the trace of the peeling.
 use Prim.Native.Nat.{ℕ, zero, suc, _+_, _-_, _*_, _/_, _%_}
-use mathlib.Core.Bool.{Bool, true, false, _||_, not, cond}
+use mathlib.Core.Bool.{Bool, true, false, cond}
 use mathlib.Core.List.{List}
 use lib.Dec.{eqb, leb}
 use Rattle.definitions.specs.Mesh.{tri, next, prev, org, tip}
@@ -88,11 +88,3 @@ module _ (ts : List ℕ) where
   unfoldable pub regions : ℕ → ℕ → Tables → Tables
   unfolding markWalk settleAll settleEnds
   regions n t T = settleAll (n - 2) (settleEnds (markWalk (2 * n - 4) t T))
-
-  -- the corners of triangle t do not all lie in one region
-  unfoldable pub split : Tables → ℕ → Bool
-  unfolding apexOf org next prev
-  split T t =
-      let g = apexOf (T .op) t in
-      let a = T .mark (2 * org ts g) in
-      not (eqb (T .mark (2 * org ts (next g))) a) || not (eqb (T .mark (2 * org ts (prev g))) a)

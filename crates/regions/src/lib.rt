@@ -1,55 +1,31 @@
 // The regions of the raised triangle: to which coordinate of each vertex its weight goes. Its colour-2 walk leaves signs at the vertices whose paths
-// begin by a side that it crosses; one pass over the vertices in reverse order of leaving then finds the regions. All of it is linear in n.
-use tables::after;
-use tables::end;
-use tables::get_count;
-use tables::get_head;
+// begin by a side that it crosses; one pass over the vertices in reverse order of leaving then finds the regions. All of it is linear in n, with a word for
+// each triangle of the walk and for each vertex.
+use laying::part0;
+use laying::part1;
+use laying::part2;
+use laying::part3;
 use tables::get_mark;
+use tables::get_op;
 use tables::set_mark;
 use tables::vertex;
 ghost use mathlib.Core.Path.{_≡_};
-ghost use Prim.Native.Nat.{ℕ, _+_, _-_, _*_, _<_, _≤_, _^_};
+ghost use Prim.Native.Nat.{ℕ, _+_, _-_, _*_, _<_, _≤_};
 ghost use lib.ListN.{length};
-ghost use Rattle.definitions.specs.Mesh.{tri};
-ghost use Rattle.tables.specs.Tables.{view, markAt};
-ghost use Rattle.raising.specs.Work.{apexOf, into, noteLeft, noteRight, noteBoth, markWalk, regionAt, settle, settleAll, settleEnds, regions};
-ghost use Rattle.regions.specs.Turns.{Room, Places};
+ghost use Rattle.definitions.specs.Mesh.{org};
+ghost use Rattle.tables.specs.Tables.{view};
+ghost use Rattle.raising.specs.Work.{settleEnds};
+ghost use Rattle.raising.specs.Laid.{part0, part1, part2, signLeft, signRight, signs, runWalk, regionBy, place, placeAll, found};
+ghost use Rattle.regions.specs.Turns.{Room, Places, Findable};
 
-// the corner of triangle t with label 2
-pub fn apex(s: &[i64], t: usize) -> usize
-    requires { ⌜ t < 65536 ⌝ }
-    ensures is { λ r. ⌜ r ≡ apexOf (view (now (s .entry)) .op) t ⌝ }
-    ensures small { λ r. ⌜ r < 3 * t + 3 ⌝ }
+// The walk goes on by the word w: a sign at the vertex whose dart to the left it comes in by.
+fn sign_left(s: &mut [i64], w: usize)
+    requires { ⌜ 10 * part1 w + 10 ≤ length (now s) ⌝ }
+    ensures { λ r. ⌜ view (now (s .exit)) ≡ signLeft w (view (now (s .entry))) ⌝ }
 {
-    let a = stage::label_of(s, 3 * t);
-    if a == 2 {
-        return 3 * t;
-    }
-    let b = stage::label_of(s, 3 * t + 1);
-    if b == 2 {
-        return 3 * t + 1;
-    }
-    3 * t + 2
-}
-
-// the dart by which the walk comes from triangle t into the next one
-fn way(s: &[i64], t: usize) -> usize
-    requires { ⌜ t < 65536 ⌝ }
-    ensures is { λ r. ⌜ r ≡ into (view (now (s .entry)) .op) t ⌝ }
-    ensures small { λ r. ⌜ r < 65536 ⌝ }
-{
-    let g = apex(s, t);
-    stage::across(s, after(g))
-}
-
-// The walk comes in by dart o: a sign at the vertex whose dart to the left that is.
-fn note_left(triangles: &[u16], s: &mut [i64], o: usize)
-    requires { ⌜ Room (now triangles) (length (now s)) ⌝ }
-    ensures { λ r. ⌜ view (now (s .exit)) ≡ noteLeft (now (triangles .entry)) o (view (now (s .entry))) ⌝ }
-{
-    let v = vertex(triangles, o);
-    let e = get_head(s, v);
-    if e == o {
+    let f = part3(w);
+    if f % 2 == 1 {
+        let v = part1(w);
         let m = get_mark(s, 2 * v);
         set_mark(s, 2 * v, 8 * (m / 8) + 4);
         return;
@@ -57,13 +33,13 @@ fn note_left(triangles: &[u16], s: &mut [i64], o: usize)
 }
 
 // the same for the vertex whose dart from the right it is
-fn note_right(triangles: &[u16], s: &mut [i64], o: usize)
-    requires { ⌜ (o < 2 ^ 63) × Room (now triangles) (length (now s)) ⌝ }
-    ensures { λ r. ⌜ view (now (s .exit)) ≡ noteRight (now (triangles .entry)) o (view (now (s .entry))) ⌝ }
+fn sign_right(s: &mut [i64], w: usize)
+    requires { ⌜ 10 * part2 w + 10 ≤ length (now s) ⌝ }
+    ensures { λ r. ⌜ view (now (s .exit)) ≡ signRight w (view (now (s .entry))) ⌝ }
 {
-    let v = end(triangles, o);
-    let e = get_count(s, v);
-    if e == o {
+    let f = part3(w);
+    if 2 <= f {
+        let v = part2(w);
         let m = get_mark(s, 2 * v);
         set_mark(s, 2 * v, 8 + m % 8);
         return;
@@ -71,22 +47,21 @@ fn note_right(triangles: &[u16], s: &mut [i64], o: usize)
 }
 
 // one step of the walk, to the next triangle
-fn step(triangles: &[u16], s: &mut [i64], t: usize) -> usize
-    requires { ⌜ (t < 65536) × Room (now triangles) (length (now s)) ⌝ }
-    ensures next { λ r. ⌜ r ≡ tri (into (view (now (s .entry)) .op) t) ⌝ }
-    ensures small { λ r. ⌜ r < 65536 ⌝ }
-    ensures signs { λ r. ⌜ view (now (s .exit)) ≡ noteBoth (now (triangles .entry)) (into (view (now (s .entry)) .op) t) (view (now (s .entry))) ⌝ }
+fn step(s: &mut [i64], t: usize) -> usize
+    requires { ⌜ (t < 65536) × (10 * part1 (view (now s) .op (3 * t)) + 10 ≤ length (now s)) × (10 * part2 (view (now s) .op (3 * t)) + 10 ≤ length (now s)) ⌝ }
+    ensures next { λ r. ⌜ r ≡ part0 (view (now (s .entry)) .op (3 * t)) ⌝ }
+    ensures signs { λ r. ⌜ view (now (s .exit)) ≡ signs (view (now (s .entry)) .op (3 * t)) (view (now (s .entry))) ⌝ }
 {
-    let o = way(s, t);
-    note_left(triangles, s, o);
-    note_right(triangles, s, o);
-    o / 3
+    let w = get_op(s, 3 * t);
+    sign_left(s, w);
+    sign_right(s, w);
+    part0(w)
 }
 
-// the walk of triangle t, in that many steps at most
-fn mark_walk(triangles: &[u16], s: &mut [i64], steps: usize, t: usize)
-    requires { ⌜ (t < 65536) × Room (now triangles) (length (now s)) ⌝ }
-    ensures { λ r. ⌜ view (now (s .exit)) ≡ markWalk (now (triangles .entry)) steps t (view (now (s .entry))) ⌝ }
+// the walk of triangle t, of `steps` triangles, in that many steps at most
+fn mark_walk(s: &mut [i64], steps: usize, t: usize)
+    requires { ⌜ (t < steps) × (steps < 65536) × Room (view (now s)) steps (length (now s)) ⌝ }
+    ensures { λ r. ⌜ view (now (s .exit)) ≡ runWalk steps t (view (now (s .entry))) ⌝ }
 {
     let mut k = steps;
     let mut at = t;
@@ -94,31 +69,28 @@ fn mark_walk(triangles: &[u16], s: &mut [i64], steps: usize, t: usize)
         if at == 0 {
             return;
         }
-        at = step(triangles, s, at);
+        at = step(s, at);
         k -= 1;
     }
 }
 
-// the region of vertex v, whose two paths go on from vertices that have theirs
-fn region_at(triangles: &[u16], s: &[i64], v: usize) -> usize
-    requires { ⌜ v < 2 ^ 63 ⌝ }
-    ensures is { λ r. ⌜ r ≡ regionAt (now (triangles .entry)) (view (now (s .entry))) v ⌝ }
+// the region of the vertex in the word w, whose two paths go on from vertices that have theirs
+fn region_by(s: &[i64], w: usize) -> usize
+    ensures is { λ r. ⌜ r ≡ regionBy w (view (now (s .entry))) ⌝ }
     ensures small { λ r. ⌜ r < 3 ⌝ }
 {
-    let m = get_mark(s, 2 * v);
+    let m = get_mark(s, 2 * part0(w));
     if 8 <= m {
         return 0;
     }
-    let e = get_count(s, v);
-    let right = get_mark(s, 2 * vertex(triangles, e));
+    let right = get_mark(s, 2 * part2(w));
     if right == 0 {
         return 0;
     }
     if 4 <= m {
         return 1;
     }
-    let d = get_head(s, v);
-    let left = get_mark(s, 2 * end(triangles, d));
+    let left = get_mark(s, 2 * part1(w));
     if left == 1 {
         return 1;
     }
@@ -126,30 +98,30 @@ fn region_at(triangles: &[u16], s: &[i64], v: usize) -> usize
 }
 
 // the k-th vertex that left gets its region
-fn settle(triangles: &[u16], s: &mut [i64], k: usize)
-    requires { ⌜ (k < 65536) × (markAt (2 * view (now s) .mark (2 * k + 1)) < length (now s)) ⌝ }
-    ensures { λ r. ⌜ view (now (s .exit)) ≡ settle (now (triangles .entry)) k (view (now (s .entry))) ⌝ }
+fn place(s: &mut [i64], k: usize)
+    requires { ⌜ (k < 65536) × (10 * part0 (view (now s) .mark (2 * k + 1)) + 10 ≤ length (now s)) ⌝ }
+    ensures { λ r. ⌜ view (now (s .exit)) ≡ place k (view (now (s .entry))) ⌝ }
 {
-    let v = get_mark(s, 2 * k + 1);
-    let r = region_at(triangles, s, v);
-    set_mark(s, 2 * v, r);
+    let w = get_mark(s, 2 * k + 1);
+    let r = region_by(s, w);
+    set_mark(s, 2 * part0(w), r);
 }
 
 // the first m vertices that left, in reverse
-fn settle_all(triangles: &[u16], s: &mut [i64], m: usize)
+fn place_all(s: &mut [i64], m: usize)
     requires { ⌜ (m < 65536) × Places (view (now s)) m (length (now s)) ⌝ }
-    ensures { λ r. ⌜ view (now (s .exit)) ≡ settleAll (now (triangles .entry)) m (view (now (s .entry))) ⌝ }
+    ensures { λ r. ⌜ view (now (s .exit)) ≡ placeAll m (view (now (s .entry))) ⌝ }
 {
     let mut k = m;
     while 0 < k {
         k -= 1;
-        settle(triangles, s, k);
+        place(s, k);
     }
 }
 
 // v0 and v1
 fn settle_ends(triangles: &[u16], s: &mut [i64])
-    requires { ⌜ Room (now triangles) (length (now s)) ⌝ }
+    requires { ⌜ (10 * org (now triangles) 0 + 10 ≤ length (now s)) × (10 * org (now triangles) 2 + 10 ≤ length (now s)) ⌝ }
     ensures { λ r. ⌜ view (now (s .exit)) ≡ settleEnds (now (triangles .entry)) (view (now (s .entry))) ⌝ }
 {
     let v0 = vertex(triangles, 0);
@@ -160,10 +132,10 @@ fn settle_ends(triangles: &[u16], s: &mut [i64])
 
 // the regions of triangle t
 pub fn find(n: usize, triangles: &[u16], s: &mut [i64], t: usize)
-    requires { ⌜ (2 ≤ n) × (n < 65536) × (t < 65536) × Room (now triangles) (length (now s)) × Places (view (now s)) (n - 2) (length (now s)) ⌝ }
-    ensures { λ r. ⌜ view (now (s .exit)) ≡ regions (now (triangles .entry)) n t (view (now (s .entry))) ⌝ }
+    requires { ⌜ Findable n (now triangles) (now s) t ⌝ }
+    ensures { λ r. ⌜ view (now (s .exit)) ≡ found (now (triangles .entry)) n t (view (now (s .entry))) ⌝ }
 {
-    mark_walk(triangles, s, 2 * n - 4, t);
+    mark_walk(s, 2 * n - 4, t);
     settle_ends(triangles, s);
-    settle_all(triangles, s, n - 2);
+    place_all(s, n - 2);
 }

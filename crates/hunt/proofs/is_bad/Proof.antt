@@ -1,46 +1,44 @@
--- `hunt::is_bad` meets its contract: the vertices that it reads are those of the definition's corners. Assumes nothing.
+-- `hunt::is_bad` meets its contract, from those of its calls. Assumes nothing.
 use Rattle.tables.specs.Tables.{view}
-use Rattle.hunt.specs.Searches.{Corners, bad-by}
+use Rattle.hunt.specs.Searches.{bad-by}
 use borrow.Author.Needs.{needs}
 use Rattle.hunt.proofs.is_bad.Statement.{statement}
 use Rattle.hunt.proofs.is_bad.Tie as tie
 
-apex-requires : tie.Need-apex-requires
-apex-requires c κs = search needs
+mul-get-op : tie.Need-mul-get-op
+mul-get-op c = search needs
 
-after-requires : tie.Need-after-requires
-after-requires c κs = search needs
+add-get-op : tie.Need-add-get-op
+add-get-op c = search needs
 
-vertex-requires : tie.Need-vertex-requires
-vertex-requires c κs = search needs
+get-op-requires : tie.Need-get-op-requires
+get-op-requires c κs = search needs
 
-before-requires : tie.Need-before-requires
-before-requires c κs = search needs
+part0-requires : tie.Need-part0-requires
+part0-requires c κs = search needs
 
-vertex-requires-2 : tie.Need-vertex-requires-2
-vertex-requires-2 c κs = search needs
+part1-requires : tie.Need-part1-requires
+part1-requires c κs = search needs
 
-vertex-requires-3 : tie.Need-vertex-requires-3
-vertex-requires-3 c κs = search needs
+part2-requires : tie.Need-part2-requires
+part2-requires c κs = search needs
 
 bad-at-requires : tie.Need-bad-at-requires
 bad-at-requires c κs = search needs
 
 returns : tie.Need-returns
-returns c = let a = c .before .before .before .before .before .before .before .before .args in let ts = a .triangles .now in let T = view (a .s .now) in
-    let C : Corners ts T (a .t) (c .before .before .before .before .before .before .apex .result) (c .before .before .before .before .before .after .result) (c .before .before .before .before .vertex .result) (c .before .before .before .before2 .result) (c .before .before .vertex2 .result) (c .before .vertex3 .result) =
-    record { top = c .before .before .before .before .before .before .apex .ensures .0; then = c .before .before .before .before .before .after .ensures; zeroth = c .before .before .before .before .vertex .ensures .0; prior = c .before .before .before .before2 .ensures; oneth = c .before .before .vertex2 .ensures .0; twoth = c .before .vertex3 .ensures .0 } in
-    bad-by ts T (a .coordinates .now) (a .t) (c .before .before .before .before .before .before .apex .result) (c .before .before .before .before .before .after .result) (c .before .before .before .before .vertex .result) (c .before .before .before .before2 .result) (c .before .before .vertex2 .result) (c .before .vertex3 .result) C (c .bad-at .result) (c .bad-at .ensures)
+returns c = let a = c .before .before .before .before .before .args in
+    bad-by (view (a .s .now)) (a .coordinates .now) (a .t) (c .before .before .before .before .get-op .result) (c .before .before .before .part0 .result) (c .before .before .part1 .result) (c .before .part2 .result) (c .before .before .before .before .get-op .ensures .0) (c .before .before .before .part0 .ensures .0) (c .before .before .part1 .ensures .0) (c .before .part2 .ensures .0) (c .bad-at .result) (c .bad-at .ensures)
 
 pub is-bad-spec : {M : Type 1} → statement M
 is-bad-spec =
     tie.close
     (tie.spec
-    apex-requires
-    after-requires
-    vertex-requires
-    before-requires
-    vertex-requires-2
-    vertex-requires-3
+    mul-get-op
+    add-get-op
+    get-op-requires
+    part0-requires
+    part1-requires
+    part2-requires
     bad-at-requires
     returns)

@@ -13,12 +13,12 @@ is-bad-requires : tie.Need-is-bad-requires
 is-bad-requires c κs = search needs
 
 returns : tie.Need-returns
-returns c = let a = c .before .before .before .before .args in
-    split-bad (a .triangles .now) (view (a .s .now)) (a .coordinates .now) (a .t) (c .is-bad .result) (sym (c .before .before .is-split .ensures) ∙ c .before .if1 .taken) (c .is-bad .ensures)
+returns c = let a = c .before .before .before .args in
+    split-bad (view (a .s .now)) (a .coordinates .now) (a .t) (c .is-bad .result) (sym (c .before .before .is-split .ensures) ∙ c .before .if1 .taken) (c .is-bad .ensures)
 
 returns-2 : tie.Need-returns-2
-returns-2 c = let a = c .before .before .before .args in
-    unsplit (a .triangles .now) (view (a .s .now)) (a .coordinates .now) (a .t) (sym (c .before .is-split .ensures) ∙ c .if1 .left)
+returns-2 c = let a = c .before .before .args in
+    unsplit (view (a .s .now)) (a .coordinates .now) (a .t) (sym (c .before .is-split .ensures) ∙ c .if1 .left)
 
 pub is-split-bad-spec : {M : Type 1} → statement M
 is-split-bad-spec = tie.close (tie.spec is-split-requires is-bad-requires returns returns-2)

@@ -4,10 +4,10 @@ use Rattle.hunt.proofs.next_bad.Statement.{statement}
 use Rattle.hunt.proofs.next_bad.Tie as tie
 
 first-split-requires : tie.Need-first-split-requires
-first-split-requires c κs = (omega (arith, c .before .pre .0), omega (arith, c .before .pre .1, c .before .pre .2), c .before .pre .3)
+first-split-requires c κs = (c .pre .0, omega (arith, c .pre .1, c .pre .2), c .pre .3)
 
 first-bad-requires : tie.Need-first-bad-requires
-first-bad-requires c κs = (omega (arith, c .first-split .ensures .most, c .before .before .pre .1), c .before .before .pre .2, c .before .before .pre .3)
+first-bad-requires c κs = (omega (arith, c .first-split .ensures .most, c .before .pre .1), c .before .pre .2, c .before .pre .3)
 
 returns : tie.Need-returns
 returns c = record { low = c .before .first-split .result; lower = c .before .first-split .ensures; found = c .first-bad .ensures }

@@ -7,10 +7,10 @@ use Rattle.mendcode.proofs.mend.Statement.{statement}
 use Rattle.mendcode.proofs.mend.Tie as tie
 
 abbrev Inv-loop : tie.InvT-loop
-Inv-loop n triangles weights₀ coordinates₀ s₀ sum end total₀ count₀ t₀ weights coordinates s total count t = Loops n triangles weights₀ coordinates₀ s₀ weights coordinates s total count t
+Inv-loop n triangles weights₀ coordinates₀ s₀ sum end total₀ count₀ full₀ t₀ weights coordinates s total count full t = Loops n triangles weights₀ coordinates₀ s₀ weights coordinates s total count full t
 
 abbrev μ-loop : tie.MeasureT-loop
-μ-loop n triangles weights₀ coordinates₀ s₀ sum end total₀ count₀ t₀ weights coordinates s total count t = 2 * n - 4 - count
+μ-loop n triangles weights₀ coordinates₀ s₀ sum end total₀ count₀ full₀ t₀ weights coordinates s total count full t = 2 * n - 4 - count
 
 mul-end : tie.Need-mul-end Inv-loop μ-loop
 mul-end c = let a = c .before .args in omega (arith, start-some (a .n) (a .triangles .now) (a .weights .now) (a .coordinates .now) (a .s .now) (a .sum) (c .before .pre))
@@ -25,7 +25,7 @@ loop-holds : tie.Need-loop-holds Inv-loop μ-loop
 loop-holds c = let a = c .before .before .before .before .args in loops-begin (a .n) (a .triangles .now) (a .weights .now) (a .coordinates .now) (a .s .now) (a .sum) (c .before .before .before .before .pre) (c .first-bad .result) (c .first-bad .ensures)
 
 try-raise-requires : tie.Need-try-raise-requires Inv-loop μ-loop
-try-raise-requires c κs = let a = c .before .before .before .before .before .before .before .before .before .args in can-raise (a .n) (a .triangles .now) (a .weights .now) (a .coordinates .now) (a .s .now) (a .sum) (c .before .before .before .before .before .before .before .before .before .pre) (c .before .before .before .before .loop .weights) (c .before .before .before .before .loop .coordinates) (c .before .before .before .before .loop .s) (c .before .before .before .before .loop .total) (c .before .before .before .before .loop .count) (c .before .before .before .before .loop .t) (c .before .before .before .before .loop .inv) (c .before .before .before .loop-test .taken)
+try-raise-requires c κs = let a = c .before .before .before .before .before .before .before .before .before .args in can-raise (a .n) (a .triangles .now) (a .weights .now) (a .coordinates .now) (a .s .now) (a .sum) (c .before .before .before .before .before .before .before .before .before .pre) (c .before .before .before .before .loop .weights) (c .before .before .before .before .loop .coordinates) (c .before .before .before .before .loop .s) (c .before .before .before .before .loop .total) (c .before .before .before .before .loop .count) (c .before .before .before .before .loop .full) (c .before .before .before .before .loop .t) (c .before .before .before .before .loop .inv) (c .before .before .before .loop-test .taken)
 
 same-length : tie.Need-same-length Inv-loop μ-loop
 same-length c = c .before .before .before .before .try-raise .kept .1 .1 .0 ∙ c .before .before .before .before .before .before .before .before .before .loop .inv .weights-long
@@ -37,19 +37,22 @@ same-length-3 : tie.Need-same-length-3 Inv-loop μ-loop
 same-length-3 c = c .before .before .before .before .try-raise .kept .1 .1 .1 .1 .0 ∙ c .before .before .before .before .before .before .before .before .before .loop .inv .scratch-long
 
 returns : tie.Need-returns Inv-loop μ-loop
-returns c = let a = c .before .before .before .before .before .before .before .before .before .before .before .before .before .before .args in loop-stops (a .n) (a .triangles .now) (a .weights .now) (a .coordinates .now) (a .s .now) (a .sum) (c .before .before .before .before .before .before .before .before .before .before .before .before .before .before .pre) (c .before .before .before .before .before .before .before .before .before .loop .weights) (c .before .before .before .before .before .before .before .before .before .loop .coordinates) (c .before .before .before .before .before .before .before .before .before .loop .s) (c .before .before .before .before .before .before .before .before .before .loop .total) (c .before .before .before .before .before .before .before .before .before .loop .count) (c .before .before .before .before .before .before .before .before .before .loop .t) (c .before .before .before .before .before .before .before .before .before .loop .inv) (c .before .before .before .before .before .before .before .before .loop-test .taken) (c .before .before .before .before .try-raise .last .1 .1 .0) (c .before .before .before .before .try-raise .last .1 .1 .1 .0) (c .before .before .before .before .try-raise .last .1 .1 .1 .1 .0) (c .before .before .before .before .try-raise .result) (c .before .before .before .before .try-raise .ensures) (omega (arith, c .if1 .taken))
+returns c = let a = c .before .before .before .before .before .before .before .before .before .before .before .before .before .before .args in loop-stops (a .n) (a .triangles .now) (a .weights .now) (a .coordinates .now) (a .s .now) (a .sum) (c .before .before .before .before .before .before .before .before .before .before .before .before .before .before .pre) (c .before .before .before .before .before .before .before .before .before .loop .weights) (c .before .before .before .before .before .before .before .before .before .loop .coordinates) (c .before .before .before .before .before .before .before .before .before .loop .s) (c .before .before .before .before .before .before .before .before .before .loop .total) (c .before .before .before .before .before .before .before .before .before .loop .count) (c .before .before .before .before .before .before .before .before .before .loop .full) (c .before .before .before .before .before .before .before .before .before .loop .t) (c .before .before .before .before .before .before .before .before .before .loop .inv) (c .before .before .before .before .before .before .before .before .loop-test .taken) (c .before .before .before .before .try-raise .last .1 .1 .0) (c .before .before .before .before .try-raise .last .1 .1 .1 .0) (c .before .before .before .before .try-raise .last .1 .1 .1 .1 .0) (c .before .before .before .before .try-raise .result) (c .before .before .before .before .try-raise .ensures) (omega (arith, c .if1 .taken))
 
 add-count : tie.Need-add-count Inv-loop μ-loop
-add-count c = let a = c .before .before .before .before .before .before .before .before .before .before .before .before .before .before .args in omega (arith, fueled (a .n) (a .triangles .now) (a .weights .now) (a .coordinates .now) (a .s .now) (a .sum) (c .before .before .before .before .before .before .before .before .before .before .before .before .before .before .pre) (c .before .before .before .before .before .before .before .before .before .loop .weights) (c .before .before .before .before .before .before .before .before .before .loop .coordinates) (c .before .before .before .before .before .before .before .before .before .loop .s) (c .before .before .before .before .before .before .before .before .before .loop .total) (c .before .before .before .before .before .before .before .before .before .loop .count) (c .before .before .before .before .before .before .before .before .before .loop .t) (c .before .before .before .before .before .before .before .before .before .loop .inv), start-some (a .n) (a .triangles .now) (a .weights .now) (a .coordinates .now) (a .s .now) (a .sum) (c .before .before .before .before .before .before .before .before .before .before .before .before .before .before .pre))
+add-count c = let a = c .before .before .before .before .before .before .before .before .before .before .before .before .before .before .args in omega (arith, fueled (a .n) (a .triangles .now) (a .weights .now) (a .coordinates .now) (a .s .now) (a .sum) (c .before .before .before .before .before .before .before .before .before .before .before .before .before .before .pre) (c .before .before .before .before .before .before .before .before .before .loop .weights) (c .before .before .before .before .before .before .before .before .before .loop .coordinates) (c .before .before .before .before .before .before .before .before .before .loop .s) (c .before .before .before .before .before .before .before .before .before .loop .total) (c .before .before .before .before .before .before .before .before .before .loop .count) (c .before .before .before .before .before .before .before .before .before .loop .full) (c .before .before .before .before .before .before .before .before .before .loop .t) (c .before .before .before .before .before .before .before .before .before .loop .inv), start-some (a .n) (a .triangles .now) (a .weights .now) (a .coordinates .now) (a .s .now) (a .sum) (c .before .before .before .before .before .before .before .before .before .before .before .before .before .before .pre))
 
 next-bad-requires : tie.Need-next-bad-requires Inv-loop μ-loop
-next-bad-requires c κs = let a = c .before .before .before .before .before .before .before .before .before .before .before .before .before .before .before .before .args in (now (a .n) (a .triangles .now) (a .weights .now) (a .coordinates .now) (a .s .now) (a .sum) (c .before .before .before .before .before .before .before .before .before .before .before .before .before .before .before .before .pre) (c .before .before .before .before .before .before .before .before .before .before .before .loop .weights) (c .before .before .before .before .before .before .before .before .before .before .before .loop .coordinates) (c .before .before .before .before .before .before .before .before .before .before .before .loop .s) (c .before .before .before .before .before .before .before .before .before .before .before .loop .total) (c .before .before .before .before .before .before .before .before .before .before .before .loop .count) (c .before .before .before .before .before .before .before .before .before .before .before .loop .t) (c .before .before .before .before .before .before .before .before .before .before .before .loop .inv) .positive, omega (arith, c .before .before .before .before .before .before .before .before .before .before .loop-test .taken), omega (arith, start-some (a .n) (a .triangles .now) (a .weights .now) (a .coordinates .now) (a .s .now) (a .sum) (c .before .before .before .before .before .before .before .before .before .before .before .before .before .before .before .before .pre)), next-within (a .n) (a .triangles .now) (a .weights .now) (a .coordinates .now) (a .s .now) (a .sum) (c .before .before .before .before .before .before .before .before .before .before .before .before .before .before .before .before .pre) (c .before .before .before .before .before .before .before .before .before .before .before .loop .weights) (c .before .before .before .before .before .before .before .before .before .before .before .loop .coordinates) (c .before .before .before .before .before .before .before .before .before .before .before .loop .s) (c .before .before .before .before .before .before .before .before .before .before .before .loop .total) (c .before .before .before .before .before .before .before .before .before .before .before .loop .count) (c .before .before .before .before .before .before .before .before .before .before .before .loop .t) (c .before .before .before .before .before .before .before .before .before .before .before .loop .inv) (c .before .before .before .before .before .before .before .before .before .before .loop-test .taken) (c .before .before .before .before .before .before .try-raise .last .1 .1 .0) (c .before .before .before .before .before .before .try-raise .last .1 .1 .1 .0) (c .before .before .before .before .before .before .try-raise .last .1 .1 .1 .1 .0) (c .before .before .before .before .before .before .try-raise .result) (c .before .before .before .before .before .before .try-raise .ensures) (omega (arith, c .before .before .if1 .left)))
+next-bad-requires c κs = let a = c .before .before .before .before .before .before .before .before .before .before .before .before .before .before .before .before .args in (now (a .n) (a .triangles .now) (a .weights .now) (a .coordinates .now) (a .s .now) (a .sum) (c .before .before .before .before .before .before .before .before .before .before .before .before .before .before .before .before .pre) (c .before .before .before .before .before .before .before .before .before .before .before .loop .weights) (c .before .before .before .before .before .before .before .before .before .before .before .loop .coordinates) (c .before .before .before .before .before .before .before .before .before .before .before .loop .s) (c .before .before .before .before .before .before .before .before .before .before .before .loop .total) (c .before .before .before .before .before .before .before .before .before .before .before .loop .count) (c .before .before .before .before .before .before .before .before .before .before .before .loop .full) (c .before .before .before .before .before .before .before .before .before .before .before .loop .t) (c .before .before .before .before .before .before .before .before .before .before .before .loop .inv) .lower, omega (arith, c .before .before .before .before .before .before .before .before .before .before .loop-test .taken), omega (arith, start-some (a .n) (a .triangles .now) (a .weights .now) (a .coordinates .now) (a .s .now) (a .sum) (c .before .before .before .before .before .before .before .before .before .before .before .before .before .before .before .before .pre)), next-within (a .n) (a .triangles .now) (a .weights .now) (a .coordinates .now) (a .s .now) (a .sum) (c .before .before .before .before .before .before .before .before .before .before .before .before .before .before .before .before .pre) (c .before .before .before .before .before .before .before .before .before .before .before .loop .weights) (c .before .before .before .before .before .before .before .before .before .before .before .loop .coordinates) (c .before .before .before .before .before .before .before .before .before .before .before .loop .s) (c .before .before .before .before .before .before .before .before .before .before .before .loop .total) (c .before .before .before .before .before .before .before .before .before .before .before .loop .count) (c .before .before .before .before .before .before .before .before .before .before .before .loop .full) (c .before .before .before .before .before .before .before .before .before .before .before .loop .t) (c .before .before .before .before .before .before .before .before .before .before .before .loop .inv) (c .before .before .before .before .before .before .before .before .before .before .loop-test .taken) (c .before .before .before .before .before .before .try-raise .last .1 .1 .0) (c .before .before .before .before .before .before .try-raise .last .1 .1 .1 .0) (c .before .before .before .before .before .before .try-raise .last .1 .1 .1 .1 .0) (c .before .before .before .before .before .before .try-raise .result) (c .before .before .before .before .before .before .try-raise .ensures) (omega (arith, c .before .before .if1 .left)))
+
+passed-requires : tie.Need-passed-requires Inv-loop μ-loop
+passed-requires c κs = let a = c .before .before .before .before .before .before .before .before .before .before .before .before .before .before .before .before .before .args in (now (a .n) (a .triangles .now) (a .weights .now) (a .coordinates .now) (a .s .now) (a .sum) (c .before .before .before .before .before .before .before .before .before .before .before .before .before .before .before .before .before .pre) (c .before .before .before .before .before .before .before .before .before .before .before .before .loop .weights) (c .before .before .before .before .before .before .before .before .before .before .before .before .loop .coordinates) (c .before .before .before .before .before .before .before .before .before .before .before .before .loop .s) (c .before .before .before .before .before .before .before .before .before .before .before .before .loop .total) (c .before .before .before .before .before .before .before .before .before .before .before .before .loop .count) (c .before .before .before .before .before .before .before .before .before .before .before .before .loop .full) (c .before .before .before .before .before .before .before .before .before .before .before .before .loop .t) (c .before .before .before .before .before .before .before .before .before .before .before .before .loop .inv) .lower, omega (arith, c .before .before .before .before .before .before .before .before .before .before .before .loop-test .taken, start-some (a .n) (a .triangles .now) (a .weights .now) (a .coordinates .now) (a .s .now) (a .sum) (c .before .before .before .before .before .before .before .before .before .before .before .before .before .before .before .before .before .pre)))
 
 loop-less : tie.Need-loop-less Inv-loop μ-loop
-loop-less c = let a = c .before .before .before .before .before .before .before .before .before .before .before .before .before .before .before .before .before .args in omega (arith, fueled (a .n) (a .triangles .now) (a .weights .now) (a .coordinates .now) (a .s .now) (a .sum) (c .before .before .before .before .before .before .before .before .before .before .before .before .before .before .before .before .before .pre) (c .before .before .before .before .before .before .before .before .before .before .before .before .loop .weights) (c .before .before .before .before .before .before .before .before .before .before .before .before .loop .coordinates) (c .before .before .before .before .before .before .before .before .before .before .before .before .loop .s) (c .before .before .before .before .before .before .before .before .before .before .before .before .loop .total) (c .before .before .before .before .before .before .before .before .before .before .before .before .loop .count) (c .before .before .before .before .before .before .before .before .before .before .before .before .loop .t) (c .before .before .before .before .before .before .before .before .before .before .before .before .loop .inv))
+loop-less c = let a = c .before .before .before .before .before .before .before .before .before .before .before .before .before .before .before .before .before .before .args in omega (arith, fueled (a .n) (a .triangles .now) (a .weights .now) (a .coordinates .now) (a .s .now) (a .sum) (c .before .before .before .before .before .before .before .before .before .before .before .before .before .before .before .before .before .before .pre) (c .before .before .before .before .before .before .before .before .before .before .before .before .before .loop .weights) (c .before .before .before .before .before .before .before .before .before .before .before .before .before .loop .coordinates) (c .before .before .before .before .before .before .before .before .before .before .before .before .before .loop .s) (c .before .before .before .before .before .before .before .before .before .before .before .before .before .loop .total) (c .before .before .before .before .before .before .before .before .before .before .before .before .before .loop .count) (c .before .before .before .before .before .before .before .before .before .before .before .before .before .loop .full) (c .before .before .before .before .before .before .before .before .before .before .before .before .before .loop .t) (c .before .before .before .before .before .before .before .before .before .before .before .before .before .loop .inv))
 
 loop-again : tie.Need-loop-again Inv-loop μ-loop
-loop-again c = let a = c .before .before .before .before .before .before .before .before .before .before .before .before .before .before .before .before .before .args in loops-again (a .n) (a .triangles .now) (a .weights .now) (a .coordinates .now) (a .s .now) (a .sum) (c .before .before .before .before .before .before .before .before .before .before .before .before .before .before .before .before .before .pre) (c .before .before .before .before .before .before .before .before .before .before .before .before .loop .weights) (c .before .before .before .before .before .before .before .before .before .before .before .before .loop .coordinates) (c .before .before .before .before .before .before .before .before .before .before .before .before .loop .s) (c .before .before .before .before .before .before .before .before .before .before .before .before .loop .total) (c .before .before .before .before .before .before .before .before .before .before .before .before .loop .count) (c .before .before .before .before .before .before .before .before .before .before .before .before .loop .t) (c .before .before .before .before .before .before .before .before .before .before .before .before .loop .inv) (c .before .before .before .before .before .before .before .before .before .before .before .loop-test .taken) (c .before .before .before .before .before .before .before .try-raise .last .1 .1 .0) (c .before .before .before .before .before .before .before .try-raise .last .1 .1 .1 .0) (c .before .before .before .before .before .before .before .try-raise .last .1 .1 .1 .1 .0) (c .before .before .before .before .before .before .before .try-raise .result) (c .before .before .before .before .before .before .before .try-raise .ensures) (omega (arith, c .before .before .before .if1 .left)) (c .before .before .before .before .before .before .before .try-raise .kept .1 .1 .0) (c .before .before .before .before .before .before .before .try-raise .kept .1 .1 .1 .0) (c .before .before .before .before .before .before .before .try-raise .kept .1 .1 .1 .1 .0) (c .next-bad .result) (c .next-bad .ensures)
+loop-again c = let a = c .before .before .before .before .before .before .before .before .before .before .before .before .before .before .before .before .before .before .args in loops-again (a .n) (a .triangles .now) (a .weights .now) (a .coordinates .now) (a .s .now) (a .sum) (c .before .before .before .before .before .before .before .before .before .before .before .before .before .before .before .before .before .before .pre) (c .before .before .before .before .before .before .before .before .before .before .before .before .before .loop .weights) (c .before .before .before .before .before .before .before .before .before .before .before .before .before .loop .coordinates) (c .before .before .before .before .before .before .before .before .before .before .before .before .before .loop .s) (c .before .before .before .before .before .before .before .before .before .before .before .before .before .loop .total) (c .before .before .before .before .before .before .before .before .before .before .before .before .before .loop .count) (c .before .before .before .before .before .before .before .before .before .before .before .before .before .loop .full) (c .before .before .before .before .before .before .before .before .before .before .before .before .before .loop .t) (c .before .before .before .before .before .before .before .before .before .before .before .before .before .loop .inv) (c .before .before .before .before .before .before .before .before .before .before .before .before .loop-test .taken) (c .before .before .before .before .before .before .before .before .try-raise .last .1 .1 .0) (c .before .before .before .before .before .before .before .before .try-raise .last .1 .1 .1 .0) (c .before .before .before .before .before .before .before .before .try-raise .last .1 .1 .1 .1 .0) (c .before .before .before .before .before .before .before .before .try-raise .result) (c .before .before .before .before .before .before .before .before .try-raise .ensures) (omega (arith, c .before .before .before .before .if1 .left)) (c .before .before .before .before .before .before .before .before .try-raise .kept .1 .1 .0) (c .before .before .before .before .before .before .before .before .try-raise .kept .1 .1 .1 .0) (c .before .before .before .before .before .before .before .before .try-raise .kept .1 .1 .1 .1 .0) (c .passed .result) (c .before .next-bad .result) (c .before .next-bad .ensures) (c .passed .ensures)
 
 same-length-4 : tie.Need-same-length-4 Inv-loop μ-loop
 same-length-4 c = c .before .loop .inv .weights-long
@@ -61,7 +64,7 @@ same-length-6 : tie.Need-same-length-6 Inv-loop μ-loop
 same-length-6 c = c .before .loop .inv .scratch-long
 
 returns-2 : tie.Need-returns-2 Inv-loop μ-loop
-returns-2 c = let a = c .before .before .before .before .before .before .args in loop-ends (a .n) (a .triangles .now) (a .weights .now) (a .coordinates .now) (a .s .now) (a .sum) (c .before .before .before .before .before .before .pre) (c .before .loop .weights) (c .before .loop .coordinates) (c .before .loop .s) (c .before .loop .total) (c .before .loop .count) (c .before .loop .t) (c .before .loop .inv) (c .loop-test .left)
+returns-2 c = let a = c .before .before .before .before .before .before .args in loop-ends (a .n) (a .triangles .now) (a .weights .now) (a .coordinates .now) (a .s .now) (a .sum) (c .before .before .before .before .before .before .pre) (c .before .loop .weights) (c .before .loop .coordinates) (c .before .loop .s) (c .before .loop .total) (c .before .loop .count) (c .before .loop .full) (c .before .loop .t) (c .before .loop .inv) (c .loop-test .left)
 
 pub mend-spec : {M : Type 1} → statement M
 mend-spec =
@@ -80,6 +83,7 @@ mend-spec =
     returns
     add-count
     next-bad-requires
+    passed-requires
     loop-less
     loop-again
     same-length-4

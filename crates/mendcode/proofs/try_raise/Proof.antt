@@ -38,7 +38,7 @@ add-at-requires c κs = let a = c .before .before .before .before .before .befor
     (omega (arith, h, k), weight-light (a .weights .now) (a .t - 1) (omega (arith, h, k)) (c .before .before .before .before .before .before .before .before .pre .light), c .before .before .before .before .raise-at .ensures .1)
 
 find-requires : tie.Need-find-requires
-find-requires c κs = (c .before .before .before .before .before .before .before .before .before .before .before .pre .some, omega (arith, c .before .before .before .before .before .before .before .before .before .before .before .pre .few), c .before .before .before .before .before .before .before .before .before .before .before .pre .low, c .before .before .before .before .before .before .before .before .before .before .before .pre .room, c .before .before .before .before .before .before .before .before .before .before .before .pre .places)
+find-requires c κs = c .before .before .before .before .before .before .before .before .before .before .before .pre .findable
 
 grow-requires : tie.Need-grow-requires
 grow-requires c κs = rw (held (c .before .before .before .before .before .before .before .before .before .before .before .raise-at .result) (c .before .before .before .before .before .before .before .before .before .before .before .raise-at .ok))

@@ -2,7 +2,7 @@
 use native.Mathlib.Omega.{arith}
 use mathlib.Core.Path.{_≡_, _∙_, refl}
 use Prim.Native.Nat.{_-_, _*_, _≤_}
-use Rattle.tables.specs.Tables.{view, mark-in}
+use Rattle.tables.specs.Tables.{view}
 use Rattle.mendmesh.specs.Starts.{Wiping, wiped-none, wiped-next}
 use Rattle.mendmesh.proofs.wipe.Statement.{statement}
 use Rattle.mendmesh.proofs.wipe.Tie as tie
@@ -20,7 +20,7 @@ mul-set-mark : tie.Need-mul-set-mark Inv-loop μ-loop
 mul-set-mark c = omega (arith, c .before .before .before .pre .0, c .before .loop-test .taken)
 
 set-mark-requires : tie.Need-set-mark-requires Inv-loop μ-loop
-set-mark-requires c κs = (omega (arith, mark-in (c .before .before .before .args .n) (2 * c .before .before .loop .v) (omega (arith, c .before .loop-test .taken)), c .before .before .loop .inv .1 .long, c .before .before .before .pre .1), omega arith)
+set-mark-requires c κs = (omega (arith, c .before .loop-test .taken, c .before .before .loop .inv .1 .long, c .before .before .before .pre .1), omega arith)
 
 add-v : tie.Need-add-v Inv-loop μ-loop
 add-v c = omega (arith, c .before .before .before .before .before .pre .0, c .before .before .before .loop-test .taken)

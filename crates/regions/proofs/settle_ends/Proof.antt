@@ -1,8 +1,5 @@
--- `regions::settle_ends` meets its contract: there is room for the two stores. Assumes nothing.
-use native.Mathlib.Omega.{arith}
-use mathlib.Core.Path.{ap}
-use Prim.Native.Nat.{ℕ, _*_}
-use Rattle.tables.specs.Tables.{view, markAt}
+-- `regions::settle_ends` meets its contract, from those of its calls. Assumes nothing.
+use Rattle.tables.specs.Tables.{view}
 use Rattle.regions.specs.Turns.{ends-are}
 use borrow.Author.Needs.{needs}
 use Rattle.regions.proofs.settle_ends.Statement.{statement}
@@ -15,7 +12,7 @@ mul-set-mark : tie.Need-mul-set-mark
 mul-set-mark c = search needs
 
 set-mark-requires : tie.Need-set-mark-requires
-set-mark-requires c κs = (omega (arith, ap (λ (v : ℕ). markAt (2 * v)) (c .before .vertex .ensures .0), c .before .before .before .pre .mark 0), omega arith)
+set-mark-requires c κs = search needs
 
 vertex-requires-2 : tie.Need-vertex-requires-2
 vertex-requires-2 c κs = search needs
@@ -24,14 +21,13 @@ mul-set-mark-2 : tie.Need-mul-set-mark-2
 mul-set-mark-2 c = search needs
 
 set-mark-requires-2 : tie.Need-set-mark-requires-2
-set-mark-requires-2 c κs = (omega (arith, ap (λ (v : ℕ). markAt (2 * v)) (c .before .vertex2 .ensures .0), c .before .before .before .before .before .before .before .pre .mark 2, c .before .before .before .set-mark .kept .0), omega arith)
+set-mark-requires-2 c κs = search needs
 
 same-length : tie.Need-same-length
 same-length c = search needs
 
 returns : tie.Need-returns
-returns c = let a = c .before .before .before .before .before .before .before .before .before .args in
-    ends-are (a .triangles .now) (c .before .before .before .before .before .before .before .vertex .result) (c .before .before .before .vertex2 .result) (view (a .s .now)) (view (c .before .before .before .before .before .set-mark .last .0)) (view (c .before .set-mark2 .last .0)) (c .before .before .before .before .before .before .before .vertex .ensures .0) (c .before .before .before .vertex2 .ensures .0) (c .before .before .before .before .before .set-mark .ensures) (c .before .set-mark2 .ensures)
+returns c = let a = c .before .before .before .before .before .before .before .before .before .args in ends-are (a .triangles .now) (c .before .before .before .before .before .before .before .vertex .result) (c .before .before .before .vertex2 .result) (view (a .s .now)) (view (c .before .before .before .before .before .set-mark .last .0)) (view (c .before .set-mark2 .last .0)) (c .before .before .before .before .before .before .before .vertex .ensures .0) (c .before .before .before .vertex2 .ensures .0) (c .before .before .before .before .before .set-mark .ensures) (c .before .set-mark2 .ensures)
 
 pub settle-ends-spec : {M : Type 1} → statement M
 settle-ends-spec =

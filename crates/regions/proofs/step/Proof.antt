@@ -1,35 +1,45 @@
--- `regions::step` meets its contract, from those of `way`, `note_left` and `note_right`. Assumes nothing.
+-- `regions::step` meets its contract, from those of its calls. Assumes nothing.
 use native.Mathlib.Omega.{arith}
-use mathlib.Core.Path.{ap}
-use Rattle.definitions.specs.Mesh.{tri}
+use mathlib.Core.Path.{ap, _∙_}
 use Rattle.tables.specs.Tables.{view}
+use Rattle.raising.specs.Laid.{part0, part1, part2}
 use Rattle.regions.specs.Turns.{both-set}
 use borrow.Author.Needs.{needs}
 use Rattle.regions.proofs.step.Statement.{statement}
 use Rattle.regions.proofs.step.Tie as tie
 
-way-requires : tie.Need-way-requires
-way-requires c κs = search needs
+mul-get-op : tie.Need-mul-get-op
+mul-get-op c = search needs
 
-note-left-requires : tie.Need-note-left-requires
-note-left-requires c κs = c .before .before .before .before .pre .1
+get-op-requires : tie.Need-get-op-requires
+get-op-requires c κs = search needs
 
-note-right-requires : tie.Need-note-right-requires
-note-right-requires c κs = (omega (arith, c .before .before .before .before .way .ensures .1), rw (c .before .before .note-left .kept .1 .0) (c .before .before .before .before .before .before .before .pre .1))
+sign-left-requires : tie.Need-sign-left-requires
+sign-left-requires c κs = omega (arith, ap part1 (c .before .get-op .ensures .0), c .before .before .before .pre .1)
+
+sign-right-requires : tie.Need-sign-right-requires
+sign-right-requires c κs = omega (arith, ap part2 (c .before .before .before .before .get-op .ensures .0), c .before .before .before .before .before .before .pre .2, c .before .before .sign-left .kept .0)
+
+part0-requires : tie.Need-part0-requires
+part0-requires c κs = search needs
 
 same-length : tie.Need-same-length
 same-length c = search needs
 
 returns : tie.Need-returns
-unfolding tri
 returns c = let a = c .before .before .before .before .before .before .before .before .before .args in (
-  ap tri (c .before .before .before .before .before .before .way .ensures .0),
-  (
-    omega (arith, c .before .before .before .before .before .before .way .ensures .1),
-    both-set (a .triangles .now) (c .before .before .before .before .before .before .way .result) (a .t) (view (a .s .now)) (view (c .before .before .before .before .note-left .last .1 .0)) (view (c .before .note-right .last .1 .0)) (c .before .before .before .before .before .before .way .ensures .0) (c .before .before .before .before .note-left .ensures) (c .before .note-right .ensures),
-  ),
+  c .part0 .ensures .0 ∙ ap part0 (c .before .before .before .before .before .before .before .get-op .ensures .0),
+  both-set (c .before .before .before .before .before .before .before .get-op .result) _ (view (a .s .now)) (view (c .before .before .before .before .before .sign-left .last .0)) (view (c .before .before .sign-right .last .0)) (c .before .before .before .before .before .before .before .get-op .ensures .0) (c .before .before .before .before .before .sign-left .ensures) (c .before .before .sign-right .ensures),
 )
 
 pub step-spec : {M : Type 1} → statement M
 step-spec =
-    tie.close (tie.spec way-requires note-left-requires note-right-requires same-length returns)
+    tie.close
+    (tie.spec
+    mul-get-op
+    get-op-requires
+    sign-left-requires
+    sign-right-requires
+    part0-requires
+    same-length
+    returns)

@@ -1,9 +1,9 @@
--- `regions::way` meets its contract, from those of `apex`, `after` and `across`. Assumes nothing.
+-- `laying::way` meets its contract, from those of `apex`, `after` and `across`. Assumes nothing.
 use Rattle.tables.specs.Tables.{view}
-use Rattle.regions.specs.Turns.{way-is}
+use Rattle.laying.specs.Turns.{way-is}
 use borrow.Author.Needs.{needs}
-use Rattle.regions.proofs.way.Statement.{statement}
-use Rattle.regions.proofs.way.Tie as tie
+use Rattle.laying.proofs.way.Statement.{statement}
+use Rattle.laying.proofs.way.Tie as tie
 
 apex-requires : tie.Need-apex-requires
 apex-requires c κs = search needs

@@ -1,13 +1,13 @@
--- `regions::apex` meets its contract: the tests of the labels, in the definition's order. Assumes nothing.
+-- `laying::apex` meets its contract: the tests of the labels, in the definition's order. Assumes nothing.
 use native.Mathlib.Omega.{arith}
 use Rattle.tables.specs.Tables.{view}
-use Rattle.regions.specs.Turns.{apex-0, apex-1, apex-2}
+use Rattle.laying.specs.Turns.{apex-0, apex-1, apex-2}
 use Rattle.stage.specs.Stage.{tag}
 use mathlib.Core.Path.{refl}
 use Prim.Native.Nat.{_+_, _*_}
 use borrow.Author.Needs.{needs}
-use Rattle.regions.proofs.apex.Statement.{statement}
-use Rattle.regions.proofs.apex.Tie as tie
+use Rattle.laying.proofs.apex.Statement.{statement}
+use Rattle.laying.proofs.apex.Tie as tie
 
 mul-label-of : tie.Need-mul-label-of
 mul-label-of c = search needs

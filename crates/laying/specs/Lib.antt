@@ -1,0 +1,2 @@
+-- What laying out asks and gives.
+pub mod Turns

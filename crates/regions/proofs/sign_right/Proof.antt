@@ -1,0 +1,52 @@
+-- `regions::sign_right` meets its contract: the tests, in the definition's order. Assumes nothing.
+use native.Mathlib.Omega.{arith}
+use Rattle.tables.specs.Tables.{view}
+use Rattle.regions.specs.Turns.{right-set, right-unset}
+use borrow.Author.Needs.{needs}
+use Rattle.regions.proofs.sign_right.Statement.{statement}
+use Rattle.regions.proofs.sign_right.Tie as tie
+
+part3-requires : tie.Need-part3-requires
+part3-requires c κs = search needs
+
+part2-requires : tie.Need-part2-requires
+part2-requires c κs = search needs
+
+mul-get-mark : tie.Need-mul-get-mark
+mul-get-mark c = search needs
+
+get-mark-requires : tie.Need-get-mark-requires
+get-mark-requires c κs = search needs
+
+mul-set-mark : tie.Need-mul-set-mark
+mul-set-mark c = search needs
+
+add-set-mark : tie.Need-add-set-mark
+add-set-mark c = search needs
+
+set-mark-requires : tie.Need-set-mark-requires
+set-mark-requires c κs = (omega (arith, c .before .before .before .part2 .ensures .0, c .before .before .before .before .before .before .pre), omega (arith, c .before .get-mark .ensures .1))
+
+same-length : tie.Need-same-length
+same-length c = search needs
+
+returns : tie.Need-returns
+returns c = let a = c .before .before .before .before .before .before .before .before .args in right-set (a .w) (c .before .before .before .before .before .part2 .result) (c .before .before .before .get-mark .result) (view (a .s .now)) (omega (arith, c .before .before .before .before .before .before .before .part3 .ensures, c .before .before .before .before .before .before .if1 .taken)) (c .before .before .before .before .before .part2 .ensures .0) (c .before .before .before .get-mark .ensures .0) (view (c .before .set-mark .last .0)) (c .before .set-mark .ensures)
+
+returns-2 : tie.Need-returns-2
+returns-2 c = let a = c .before .before .args in right-unset (a .w) (view (a .s .now)) (omega (arith, c .before .part3 .ensures, c .if1 .left))
+
+pub sign-right-spec : {M : Type 1} → statement M
+sign-right-spec =
+    tie.close
+    (tie.spec
+    part3-requires
+    part2-requires
+    mul-get-mark
+    get-mark-requires
+    mul-set-mark
+    add-set-mark
+    set-mark-requires
+    same-length
+    returns
+    returns-2)
