@@ -9,7 +9,7 @@ use mathlib.Core.Path.{_≡_, refl, sym, ap, _∙_, subst}
 use mathlib.Core.Bool.{Bool, true, false, cond}
 use lib.Dec.{T, eqb, leb→le, le→leb, ltb→lt, lt→ltb}
 use lib.IntN.{ℤ, pos, negsuc, negℤ, natAbs, sucℤ, _+ℤ_, _*ℤ_, +ℤ-one}
-use lib.Signed.{_≤ℤ_, _<ℤ_, leZ, ltZ}
+use lib.Signed.{_≤ℤ_, _<ℤ_, leZ, ltZ, shrZ}
 use borrow.Author.Tests.{eq-eqb, ne-eqb}
 use Rattle.definitions.specs.Drawn.{floor}
 
@@ -187,6 +187,15 @@ module _ (a b c d : ℕ) (same : a * d ≡ c * b) (pb : 0 < b) (pd : 0 < d) wher
   pub floor-same : (s : Bool) → floor s a b ≡ floor s c d
   floor-same false = unfold floor in ap pos whole-same
   floor-same true = rw (floor-yes a b, floor-yes c d, ceiling-same)
+
+-- A signed shift rounds down.
+pub floor-shift : (s : Bool) (a b : ℕ) → 0 < b → shrZ (signed s a) b ≡ floor s a b
+floor-shift false a b h = unfold floor in refl
+floor-shift true zero b h = rw (floor-yes, ← ceiling-only 0 b 0 h (omega arith) (omega (arith, zero-mul b))) (ap pos (zero-div b))
+floor-shift true (suc n) b h =
+    let w = whole-is n b h in
+    let e : suc (n / b) ≡ ceiling (suc n) b = ceiling-only (suc n) b (suc (n / b)) h (omega arith) (omega (arith, suc-mul (n / b) b)) in
+    rw (floor-yes, ← e)
 
 -- Below 1 the divisor does not matter.
 pub floor-small : (s : Bool) (a b d : ℕ) → a < b → a < d → floor s a b ≡ floor s a d

@@ -2,17 +2,17 @@
 -- and the whole number of any other. Assumes nothing.
 use Prim.Native.Nat.{ℕ, zero, suc, _+_, _*_, _%_, _^_, _≤_, _<_}
 use native.Mathlib.Nat.{mul-assoc, mul-right-comm, mul-one, mul-le-mul, mul-le-mul-right, le-trans, le-of-eq, mod-lt, le-of-mul-le-mul-right}
-use native.Mathlib.Decide.{decLe}
+use native.Mathlib.Decide.{decLe, ℕ-discrete}
 use native.Mathlib.Omega.{arith}
 use mathlib.Core.Path.{_≡_, refl, sym, ap, _∙_, subst}
 use mathlib.Core.Bool.{Bool, true, false, _&&_, _||_, true≢false}
 use lib.Dec.{eqb, leb, ltb, lit<, le→leb}
 use lib.Pow.{pow-add, pow-pos, pow-mono}
 use lib.IntN.{ℤ, pos, natAbs}
-use lib.Ieee.{Float, nan, inf, fin, up, down, binary64, top, hid, ofBits, lt}
+use lib.Ieee.{Float, nan, inf, fin, up, down, binary64, top, hid, ofBits, lt, eq, le}
 use lib.Ieee.Fits.{down-pos}
 use lib.Ieee.Exact.{HasValue}
-use borrow.Author.Tests.{leb-true, leb-false, eqb-true, ltb-true, ltb-false, lt-ltb, le-ltb, le-leb, lt-leb}
+use borrow.Author.Tests.{leb-true, leb-false, eqb-true, lt-ltb, le-ltb, le-leb, lt-leb, eq-eqb, ne-eqb}
 use Rattle.definitions.specs.Drawn.{floor, scale, scaleAllowed, whole, notFinite, beyond, snap}
 use Rattle.shares.specs.Floor.{Below, floor-below, floor-only, floor-same, floor-size}
 use Rattle.shares.specs.Bits.{units, unitsOf, negative, field, value, Special, no-number, infinite, special}
@@ -96,9 +96,9 @@ endless nan = true
 endless (inf s) = true
 endless (fin s m e) = false
 
--- compared with -2 and 2
-unfoldable pub far : Float → Bool
-far x = lt x (fin true 1 (pos 1)) || lt (fin false 1 (pos 1)) x
+-- compared with -2 and 2, which no infinity passes and nothing that is no number
+unfoldable pub inside : Float → Bool
+inside x = le (fin true 1 (pos 1)) x && le x (fin false 1 (pos 1))
 
 -- 15, and of a finite share 16
 pub snap-endless : (r : ℕ) (x : Float) → endless x ≡ true → snap r x ≡ notFinite
@@ -107,31 +107,64 @@ snap-endless r nan h = unfold snap in refl
 snap-endless r (inf s) h = unfold snap in refl
 snap-endless r (fin s m e) h = absurd (true≢false (sym h))
 
--- of a finite share, `far` is the definition's own test
-far-fin : (s : Bool) (m : ℕ) (e : ℤ) → far (fin s m e) ≡ ltb (2 * down e) (m * up e)
-unfolding far lt
-far-fin false m e = ap (ltb (2 * down e)) (mul-one (m * up e))
-far-fin true m e = or-false (ltb (2 * down e) (m * up e * 1)) ∙ ap (ltb (2 * down e)) (mul-one (m * up e))
-  where
-    or-false : (b : Bool) → (b || false) ≡ b
-    or-false true = refl
-    or-false false = refl
+-- less or equal, in the words of `le`
+at-most : (a b : ℕ) (same : Bool) → same ≡ eqb a b → (ltb a b || same && true) ≡ leb a b
+at-most a b same s =
+    elim (decLe a b) [
+      | yes l ↦
+          elim (decLe b a) [
+            | yes m ↦
+                let e : a ≡ b = omega arith in
+                rw (s, le-ltb a b m, eq-eqb a b e, le-leb a b l)
+            | no m ↦ rw (lt-ltb a b (omega arith), le-leb a b l)
+          ]
+      | no l ↦
+          let m : b < a = omega arith in
+          rw (s, le-ltb a b (omega arith), ne-eqb a b (λ e. omega arith), lt-leb a b m)
+    ]
 
-pub snap-far : (r : ℕ) (x : Float) → endless x ≡ false → far x ≡ true → snap r x ≡ beyond x
+-- of a finite share, `inside` is the definition's own test
+inside-fin : (s : Bool) (m : ℕ) (e : ℤ) → inside (fin s m e) ≡ leb (m * up e) (2 * down e)
+unfolding inside le lt eq
+inside-fin false m e =
+    rw (mul-one (m * up e), lt-ltb 0 (2 * down e + m * up e) (omega (arith, down-pos e))) (at-most (m * up e) (2 * down e) (eqb (m * up e) (2 * down e)) refl)
+inside-fin true m e =
+    rw (mul-one (m * up e), lt-ltb 0 (m * up e + 2 * down e) (omega (arith, down-pos e)))
+    (and-true _ ∙ at-most (m * up e) (2 * down e) (eqb (2 * down e) (m * up e)) (eqb-back (2 * down e) (m * up e)))
+  where
+    and-true : (b : Bool) → (b && true) ≡ b
+    and-true true = refl
+    and-true false = refl
+
+    eqb-back : (a b : ℕ) → eqb a b ≡ eqb b a
+    eqb-back a b =
+        elim (ℕ-discrete a b) [
+          | yes e ↦ rw e
+          | no e ↦ ne-eqb a b e ∙ sym (ne-eqb b a (λ (f : b ≡ a). e (sym f)))
+        ]
+
+pub inside-finite : (x : Float) → inside x ≡ true → endless x ≡ false
+unfolding inside le lt eq endless
+inside-finite nan h = absurd (true≢false (sym h))
+inside-finite (inf false) h = absurd (true≢false (sym h))
+inside-finite (inf true) h = absurd (true≢false (sym h))
+inside-finite (fin s m e) h = refl
+
+pub snap-far : (r : ℕ) (x : Float) → endless x ≡ false → inside x ≡ false → snap r x ≡ beyond x
 unfolding endless
 snap-far r nan h t = absurd (true≢false h)
 snap-far r (inf s) h t = absurd (true≢false h)
-snap-far r (fin s m e) h t = snap-outside r s m e (ltb-true (2 * down e) (m * up e) (sym (far-fin s m e) ∙ t))
+snap-far r (fin s m e) h t = snap-outside r s m e (leb-false (m * up e) (2 * down e) (sym (inside-fin s m e) ∙ t))
 
 at-most-two : (b d a c : ℕ) → 0 < d → b * c ≡ a * d → b ≤ 2 * d → a ≤ 2 * c
 at-most-two b d a c h e l = le-of-mul-le-mul-right (omega (arith, mul-le-mul-right c l, mul-right-comm 2 c d)) h
 
--- a share that is not far is at most 2 in size
-near : (x : Float) (s : Bool) (a c : ℕ) → HasValue x s a c → far x ≡ false → a ≤ 2 * c
+-- a share that is inside is at most 2 in size
+near : (x : Float) (s : Bool) (a c : ℕ) → HasValue x s a c → inside x ≡ true → a ≤ 2 * c
 near nan s a c v h = absurd v
 near (inf t) s a c v h = absurd v
 near (fin t m e) s a c v h =
-    at-most-two (m * up e) (down e) a c (down-pos e) (v .1) (ltb-false (2 * down e) (m * up e) (sym (far-fin t m e) ∙ h))
+    at-most-two (m * up e) (down e) a c (down-pos e) (v .1) (leb-true (m * up e) (2 * down e) (sym (inside-fin t m e) ∙ h))
 
 -- ---- from the bits
 
@@ -183,11 +216,11 @@ floor-digits s q k r d e = floor-same q (2 ^ d) (q * 2 ^ k * 2 ^ r) (2 ^ 1074) s
         ∙ sym (mul-assoc q (2 ^ k * 2 ^ r) (2 ^ d))
         ∙ ap (λ (x : ℕ). x * 2 ^ d) (sym (mul-assoc q (2 ^ k) (2 ^ r)))
 
--- The share x with the bits n, neither refused: its field, and its whole number.
-module _ (r n : ℕ) (x : Float) (is : ofBits binary64 n ≡ x) (h : endless x ≡ false) (l : far x ≡ false) where
+-- The share x with the bits n, not refused: its field, and its whole number.
+module _ (r n : ℕ) (x : Float) (is : ofBits binary64 n ≡ x) (l : inside x ≡ true) where
   share-value : HasValue x (negative n) (units n) (2 ^ 1074)
   share-value =
-      let t : leb 0x7ff0_0000_0000_0000 (n % top binary64) ≡ false = endless-bits n ∙ ap endless is ∙ h in
+      let t : leb 0x7ff0_0000_0000_0000 (n % top binary64) ≡ false = endless-bits n ∙ ap endless is ∙ inside-finite x l in
       let below : n % top binary64 < 0x7ff0_0000_0000_0000 = leb-false _ _ t in
       subst (λ (y : Float). HasValue y (negative n) (units n) (2 ^ 1074)) is (value n (omega arith))
 

@@ -7,12 +7,13 @@ ghost use lib.Dec.{leb};
 ghost use lib.Ieee.{nan, binary64, top, hid};
 ghost use lib.ListN.{length, getD};
 ghost use lib.Seq.{sets};
-ghost use lib.IntN.{pos, negℤ, natAbs, _-ℤ_};
+ghost use lib.IntN.{pos, natAbs, _-ℤ_};
 ghost use Rattle.definitions.specs.Answers.{done};
 ghost use Rattle.definitions.specs.Drawn as Drawn;
 ghost use Rattle.definitions.specs.Refusals.{snapCall};
 ghost use Rattle.shares.specs.Bits.{units};
-ghost use Rattle.shares.specs.Share.{endless, far};
+ghost use Rattle.shares.specs.Floor.{signed as signOf};
+ghost use Rattle.shares.specs.Share as Share;
 ghost use Rattle.shares.specs.Points.{settled, new};
 ghost use Rattle.snap.specs.Told.{told, pointTold, snapTold};
 
@@ -32,33 +33,34 @@ fn exact_scale(scale: u32) -> u32
     if scale == 0 { USUAL_SCALE } else { scale }
 }
 
-fn signed(a: u64) -> i64
+// ± a, negative where the bool is true.
+fn with_sign(negative: bool, a: u64) -> i64
     requires { ⌜ a < 2 ^ 53 ⌝ }
-    ensures { λ r. ⌜ r ≡ pos a ⌝ }
+    ensures { λ r. ⌜ r ≡ signOf negative a ⌝ }
 {
+    if negative {
+        return -(a as i64);
+    }
     a as i64
 }
 
-fn minus(a: u64) -> i64
-    requires { ⌜ a < 2 ^ 53 ⌝ }
-    ensures { λ r. ⌜ r ≡ negℤ (pos a) ⌝ }
+// The whole number at or below ± a / 2 ^ d: a signed number is shifted down, not towards 0.
+fn floor(negative: bool, a: u64, d: u64) -> i64
+    requires { ⌜ (d < 63) × (a < 2 ^ 53) ⌝ }
+    ensures { λ r. ⌜ r ≡ Drawn.floor negative a (2 ^ d) ⌝ }
 {
-    -(a as i64)
+    with_sign(negative, a) >> d
 }
 
-// The whole number at or below a / b, or - a / b: below 0 one more is taken off where a fraction is left.
-fn floor(negative: bool, a: u64, b: u64) -> i64
-    requires { ⌜ (1 < b) × (a < 2 ^ 53) ⌝ }
-    ensures { λ r. ⌜ r ≡ Drawn.floor negative a b ⌝ }
+// The same for any d. Past 62 a divisor does what 2 ^ 62 does, since a is small.
+fn floor_shift(negative: bool, a: u64, d: u64) -> i64
+    requires { ⌜ a < 2 ^ 53 ⌝ }
+    ensures { λ r. ⌜ r ≡ Drawn.floor negative a (2 ^ d) ⌝ }
 {
-    let whole = a / b;
-    if negative {
-        if a % b == 0 {
-            return minus(whole);
-        }
-        return minus(whole + 1);
+    if d < 62 {
+        return floor(negative, a, d);
     }
-    signed(whole)
+    floor(negative, a, 62)
 }
 
 // The bit of an f64's sign, above its exponent's field and its digits.
@@ -69,17 +71,6 @@ const ENDLESS: u64 = 0x7ff0_0000_0000_0000;
 
 // The leading digit of an f64, which its bits leave out, and the weight of its exponent's field.
 const LEADING: u64 = 0x10_0000_0000_0000;
-
-// The whole number at or below ± a / 2 ^ d. A divisor past 2 ^ 62 does what 2 ^ 62 does, since a is small.
-fn floor_shift(negative: bool, a: u64, d: u64) -> i64
-    requires { ⌜ (0 < d) × (a < 2 ^ 53) ⌝ }
-    ensures { λ r. ⌜ r ≡ Drawn.floor negative a (2 ^ d) ⌝ }
-{
-    if d < 62 {
-        return floor(negative, a, 1 << d);
-    }
-    floor(negative, a, 0x4000_0000_0000_0000)
-}
 
 // The whole number of the finite f64 with these bits, at an exact scale r. Its exponent's field says which power of 2 its digits count:
 // field 0 stands for 2 ^ -1074, as 1 does, and any other brings a leading digit.
@@ -98,7 +89,7 @@ fn snap_bits(bits: u64, r: u64) -> i64
 
 // Whether a share is no number, or infinite.
 fn not_finite(share: f64) -> bool
-    ensures { λ r. ⌜ r ≡ endless share ⌝ }
+    ensures { λ r. ⌜ r ≡ Share.endless share ⌝ }
 {
     if share != share {
         return true;
@@ -106,37 +97,28 @@ fn not_finite(share: f64) -> bool
     f64::to_bits(share) % SIGN >= ENDLESS
 }
 
-// Whether a share is outside -2 to 2.
-fn outside(share: f64) -> bool
-    ensures { λ r. ⌜ r ≡ far share ⌝ }
+// Whether a share is from -2 to 2.
+fn inside(share: f64) -> bool
+    ensures { λ r. ⌜ r ≡ Share.inside share ⌝ }
 {
-    if share < -2.0 {
-        return true;
+    if share >= -2.0 {
+        return share <= 2.0;
     }
-    share > 2.0
+    false
 }
 
-// A share at an allowed scale: 15 goes before 16.
+// A share at an allowed scale: of those that are not from -2 to 2, 15 goes before 16.
 fn snap_share(share: f64, scale: u32) -> ShareAnswer
     requires { ⌜ Drawn.scaleAllowed scale ≡ true ⌝ }
     ensures { λ r. ⌜ told r ≡ Drawn.snap scale share ⌝ }
 {
-    let endless = not_finite(share);
-    let far = outside(share);
-    if endless {
+    if inside(share) {
+        return ShareAnswer::Whole(snap_bits(f64::to_bits(share), exact_scale(scale) as u64));
+    }
+    if not_finite(share) {
         return ShareAnswer::NotFinite;
     }
-    if far {
-        return ShareAnswer::Outside(share);
-    }
-    ShareAnswer::Whole(snap_bits(f64::to_bits(share), exact_scale(scale) as u64))
-}
-
-fn less(a: i64, b: i64) -> i64
-    requires { ⌜ natAbs a + natAbs b < 2 ^ 53 ⌝ }
-    ensures { λ r. ⌜ (r ≡ a -ℤ b) × (natAbs r ≤ natAbs a + natAbs b) ⌝ }
-{
-    a - b
+    ShareAnswer::Outside(share)
 }
 
 // The third coordinate, from the exact scale r and the first two.
@@ -144,7 +126,8 @@ fn third(kx: i64, ky: i64, r: u32) -> i64
     requires { ⌜ (natAbs kx ≤ 2 ^ 25) × (natAbs ky ≤ 2 ^ 25) × (r ≤ 24) ⌝ }
     ensures { λ k. ⌜ k ≡ pos (2 ^ r) -ℤ kx -ℤ ky ⌝ }
 {
-    less(less(signed(1 << r), kx), ky)
+    let total = with_sign(false, 1 << r);
+    whole::minus(whole::minus(total, kx), ky)
 }
 
 // A drawn point: the share x of v0, and the share y of v1.

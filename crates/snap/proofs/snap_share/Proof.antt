@@ -2,13 +2,13 @@
 use borrow.Author.Needs.{needs}
 use Prim.Native.Nat.{ℕ, _*_, _^_}
 use mathlib.Core.Path.{_≡_, sym, ap, subst, _∙_}
-use mathlib.Core.Bool.{false, not, true≢false}
+use mathlib.Core.Bool.{true, false, not, true≢false}
 use lib.Dec.{T}
 use lib.Ieee.{Float, nan, inf, fin, binary64, isNan, ofBits, toBits}
 use lib.Ieee.Bits.{ofBits-toBits}
 use Rattle.definitions.specs.Drawn as Drawn
 use Rattle.shares.specs.Bits.{units, negative}
-use Rattle.shares.specs.Share.{endless, far, snap-endless, snap-far, share-field, share-whole, scale-most}
+use Rattle.shares.specs.Share.{endless, inside, inside-finite, snap-endless, snap-far, share-field, share-whole, scale-most}
 use Rattle.snap.proofs.Back.{back}
 use Rattle.snap.proofs.snap_share.Statement.{statement}
 use Rattle.snap.proofs.snap_share.Tie as tie
@@ -19,30 +19,21 @@ finite nan h = absurd (true≢false h)
 finite (inf s) h = tt
 finite (fin s m e) h = tt
 
-not-finite-requires : tie.Need-not-finite-requires
-not-finite-requires c κs = search needs
+inside-requires : tie.Need-inside-requires
+inside-requires c κs = search needs
 
-outside-requires : tie.Need-outside-requires
-outside-requires c κs = search needs
+-- a share from -2 to 2 is what its bits stand for
+is-inside : (c : tie.Then1) → inside (c .before .before .args .share) ≡ true
+is-inside c = sym (c .before .inside .ensures) ∙ c .if1 .taken
 
-returns : tie.Need-returns
-returns c = sym (snap-endless _ _ (sym (c .before .before .not-finite .ensures) ∙ c .if1 .taken))
-
--- a share that passed the two tests: it is finite, it is not far, and it is what its bits stand for
-not-endless : (c : tie.Else1) → endless (c .before .before .before .args .share) ≡ false
-not-endless c = sym (c .before .before .not-finite .ensures) ∙ c .if1 .left
-
-not-far : (c : tie.Else2) → far (c .before .before .before .before .args .share) ≡ false
-not-far c = sym (c .before .before .outside .ensures) ∙ c .if2 .left
+not-inside : (c : tie.Else1) → inside (c .before .before .args .share) ≡ false
+not-inside c = sym (c .before .inside .ensures) ∙ c .if1 .left
 
 from-bits : (c : tie.Start) → ofBits binary64 (toBits binary64 (c .args .share)) ≡ c .args .share
 from-bits c = ofBits-toBits binary64 (c .args .share) (subst T (sym (c .good .0 .1)) tt)
 
-returns-2 : tie.Need-returns-2
-returns-2 c = sym (snap-far _ _ (not-endless (c .before)) (sym (c .before .before .outside .ensures) ∙ c .if2 .taken))
-
 float-to-bits-snap-bits : tie.Need-float-to-bits-snap-bits
-float-to-bits-snap-bits c = finite (c .before .before .before .before .args .share) (not-endless (c .before))
+float-to-bits-snap-bits c = finite (c .before .before .args .share) (inside-finite _ (is-inside c))
 
 exact-scale-requires : tie.Need-exact-scale-requires
 exact-scale-requires c κs = search needs
@@ -52,31 +43,40 @@ cast-snap-bits c = search needs
 
 snap-bits-requires : tie.Need-snap-bits-requires
 snap-bits-requires c κs =
-    let start = c .before .before .before .before .before in (
+    let start = c .before .before .before in (
       rw (c .exact-scale .ensures) (scale-most (start .args .scale) (start .pre)),
-      share-field (start .args .scale) _ _ (from-bits start) (not-endless (c .before .before)) (not-far (c .before)),
+      share-field (start .args .scale) _ _ (from-bits start) (is-inside (c .before)),
     )
 
-returns-3 : tie.Need-returns-3
-returns-3 c =
-    let start = c .before .before .before .before .before .before in
+returns : tie.Need-returns
+returns c =
+    let start = c .before .before .before .before in
     let n = toBits binary64 (start .args .share) in
     ap Drawn.whole
     (back (c .snap-bits .ok)
     ∙ c .snap-bits .ensures
     ∙ ap (λ (r : ℕ). Drawn.floor (negative n) (units n * 2 ^ r) (2 ^ 1074)) (c .before .exact-scale .ensures))
-    ∙ sym (share-whole (start .args .scale) n _ (from-bits start) (not-endless (c .before .before .before)) (not-far (c .before .before)))
+    ∙ sym (share-whole (start .args .scale) n _ (from-bits start) (is-inside (c .before .before)))
+
+not-finite-requires : tie.Need-not-finite-requires
+not-finite-requires c κs = search needs
+
+returns-2 : tie.Need-returns-2
+returns-2 c = sym (snap-endless _ _ (sym (c .before .not-finite .ensures) ∙ c .if2 .taken))
+
+returns-3 : tie.Need-returns-3
+returns-3 c = sym (snap-far _ _ (sym (c .before .not-finite .ensures) ∙ c .if2 .left) (not-inside (c .before .before)))
 
 pub snap-share-spec : {M : Type 1} → statement M
 snap-share-spec =
     tie.close
     (tie.spec
-    not-finite-requires
-    outside-requires
-    returns
-    returns-2
+    inside-requires
     float-to-bits-snap-bits
     exact-scale-requires
     cast-snap-bits
     snap-bits-requires
+    returns
+    not-finite-requires
+    returns-2
     returns-3)

@@ -7,7 +7,7 @@ use mathlib.Core.Path.{_≡_, ap, _∙_}
 use lib.IntN.{pos, natAbs, _-ℤ_}
 use lib.Pow.{pow-mono}
 use mir.Facts.{toZ-ofZ}
-use Rattle.snap.proofs.Back.{back, less-size}
+use Rattle.snap.proofs.Back.{back}
 use Rattle.snap.proofs.third.Statement.{statement}
 use Rattle.snap.proofs.third.Tie as tie
 
@@ -17,34 +17,35 @@ small r h = pow-mono h
 shifted : (r : ℕ) → r ≤ 24 → 1 * 2 ^ r % 2 ^ 64 ≡ 2 ^ r
 shifted r h = ap (λ (x : ℕ). x % 2 ^ 64) (one-mul (2 ^ r)) ∙ mod-eq-of-lt (omega (arith, small r h))
 
-shl-signed : tie.Need-shl-signed
-shl-signed c = search needs
+shl-with-sign : tie.Need-shl-with-sign
+shl-with-sign c = search needs
 
-signed-requires : tie.Need-signed-requires
-signed-requires c κs = rw (shifted (c .args .r) (c .pre .2)) (omega (arith, small (c .args .r) (c .pre .2)))
+with-sign-requires : tie.Need-with-sign-requires
+with-sign-requires c κs = rw (shifted (c .args .r) (c .pre .2)) (omega (arith, small (c .args .r) (c .pre .2)))
 
-power : (c : tie.After-signed) → c .signed .result ≡ pos (2 ^ c .before .args .r)
-power c = c .signed .ensures ∙ ap pos (shifted (c .before .args .r) (c .before .pre .2))
+power : (c : tie.After-with-sign) → c .with-sign .result ≡ pos (2 ^ c .before .args .r)
+power c = c .with-sign .ensures ∙ ap pos (shifted (c .before .args .r) (c .before .pre .2))
 
-less-requires : tie.Need-less-requires
-less-requires c κs =
-    rw (back (c .signed .ok), toZ-ofZ (c .before .fits .kx), power c)
+minus-requires : tie.Need-minus-requires
+minus-requires c κs =
+    rw (back (c .with-sign .ok), toZ-ofZ (c .before .fits .kx), power c)
     (omega (arith, small (c .before .args .r) (c .before .pre .2)))
 
-first : (c : tie.After-less) → c .less .result ≡ pos (2 ^ c .before .before .args .r) -ℤ c .before .before .args .kx
-first c = c .less .ensures .0 ∙ rw (back (c .before .signed .ok), toZ-ofZ (c .before .before .fits .kx), power (c .before))
+first : (c : tie.After-minus) → c .minus .result ≡ pos (2 ^ c .before .before .args .r) -ℤ c .before .before .args .kx
+first c = c .minus .ensures .0 ∙ rw (back (c .before .with-sign .ok), toZ-ofZ (c .before .before .fits .kx), power (c .before))
 
-less-requires-2 : tie.Need-less-requires-2
-less-requires-2 c κs =
+minus-requires-2 : tie.Need-minus-requires-2
+minus-requires-2 c κs =
     let r = c .before .before .args .r in
-    let size : natAbs (c .less .result) ≤ 2 ^ r + natAbs (c .before .before .args .kx) = rw (first c) (less-size (pos (2 ^ r)) (c .before .before .args .kx)) in
-    rw (back (c .less .ok), toZ-ofZ (c .before .before .fits .ky)) (omega (arith, small r (c .before .before .pre .2)))
+    let size : natAbs (c .minus .result) ≤ 2 ^ r + natAbs (c .before .before .args .kx) =
+    rw (back (c .before .with-sign .ok), toZ-ofZ (c .before .before .fits .kx), power (c .before)) at (c .minus .ensures .1) in
+    rw (back (c .minus .ok), toZ-ofZ (c .before .before .fits .ky)) (omega (arith, small r (c .before .before .pre .2)))
 
 returns : tie.Need-returns
 returns c =
-    back (c .less2 .ok)
-    ∙ c .less2 .ensures .0
-    ∙ rw (back (c .before .less .ok), toZ-ofZ (c .before .before .before .fits .ky), first (c .before))
+    back (c .minus2 .ok)
+    ∙ c .minus2 .ensures .0
+    ∙ rw (back (c .before .minus .ok), toZ-ofZ (c .before .before .before .fits .ky), first (c .before))
 
 pub third-spec : {M : Type 1} → statement M
-third-spec = tie.close (tie.spec shl-signed signed-requires less-requires less-requires-2 returns)
+third-spec = tie.close (tie.spec shl-with-sign with-sign-requires minus-requires minus-requires-2 returns)
