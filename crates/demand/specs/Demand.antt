@@ -69,7 +69,7 @@ module _ (n : ℕ) (ts : List ℕ) (acc : Accepted n ts) where
   woven : Realizer n (length ts / 3) (org ts) (opp ts) (label (labels n ts)) (outer ts)
   woven = realizer n ts sphere (acc .1)
 
-  maps : Units n ts (labels n ts)
+  pub maps : Units n ts (labels n ts)
   maps = units ts (labels n ts) sphere (acc .1) woven
 
   back : (ws : List ℤ) → AcceptedWeights n ws → backward ts (labels n ts) (forward n ts (labels n ts) ws) ≡ ws

@@ -4,7 +4,7 @@ use Prim.Native.Nat.{ℕ, _*_, _-_, _≤_, _<_}
 use mathlib.Core.Path.{_≡_, refl, ap, sym, _∙_}
 use mathlib.Core.Logic.{_≢_, _⊎_, inl, inr}
 use mathlib.Core.Bool.{true, false}
-use mathlib.Core.List.{List}
+use mathlib.Core.List.{List, [], _∷_}
 use mathlib.Core.Option.{Option, none, some}
 use native.Mathlib.Omega.{arith}
 use lib.ListN.{length}
@@ -13,18 +13,19 @@ use lib.Signed.{_≤ℤ_}
 use borrow.Author.Tests.{lt-ltb}
 use Rattle.definitions.specs.Words.{first, total, totalAbs}
 use Rattle.definitions.specs.Mesh.{trianglesLength, weightsLength, coordinatesLength, org, inner}
-use Rattle.definitions.specs.Labels.{labels}
+use Rattle.definitions.specs.Labels.{labels, outer}
 use Rattle.definitions.specs.Forward.{weight, forward}
 use Rattle.definitions.specs.Backward.{coordinate, backward}
 use Rattle.definitions.specs.Repair.{limit, bad, raise, addTo, mended, stopped, unfinished, repair, changed}
-use Rattle.definitions.specs.Answers.{done, refused, plain, after}
-use Rattle.definitions.specs.Refusals.{Accepted, AcceptedWeights, AcceptedCoordinates, row9, row10, row11, row12, Repaired, repairAnswer, repairCall}
+use Rattle.definitions.specs.Answers.{done, refused, plain, after, row}
+use Rattle.definitions.specs.Refusals.{Accepted, AcceptedWeights, AcceptedCoordinates, slice, row9, row10, row11, row12, Repaired, repairAnswer, repairCall}
 use Rattle.laws.specs.Lists.{_∈_}
 use Rattle.laws.specs.Counting.{Distinct}
+use Rattle.sphere.specs.Asking.{ask-cons, asked-none}
 use Rattle.sphere.specs.Accept.{accepted-sphere}
 use Rattle.realizer.specs.Units.{Units}
 use Rattle.mending.specs.Places.{inner-in, in-inner, weight-in, length-forward, coordinates-total}
-use Rattle.mending.specs.Bounds.{row10-forward, row11-forward, row12-forward}
+use Rattle.mending.specs.Bounds.{outer-total, row10-forward, row11-forward, row12-forward}
 use Rattle.mending.specs.Areas.{positive-good}
 use Rattle.mending.specs.Additive.{plus, forward-plus}
 use Rattle.mending.specs.Calls.{found, answerAt, call-answer, call-weights, call-coordinates, found-accepted, found-number, told, told-zero, finished-well, stopped-early}
@@ -149,6 +150,31 @@ module _ (n : ℕ) (ts : List ℕ) (units : Accepted n ts → Units n ts (labels
 
     len : length ws ≡ weightsLength n
     len = found-accepted n ts ws bs scratch on .1
+
+    -- It was lent weights that 9 lets through; those that it leaves are accepted, and the coordinates that it leaves are theirs.
+    light : row9 ws ≡ false
+    light =
+        let slices = slice (length ws) (weightsLength n) ∷ slice (length bs) (coordinatesLength n) ∷ [] in
+        ask-cons 9 (λ _. row9 ws) [] (asked-none n ts scratch slices (row 9 (λ _. row9 ws) ∷ []) on .3) .0
+
+    pub count-weights : AcceptedWeights n (repairCall n ts ws bs scratch .weights)
+    count-weights =
+        let ls = labels n ts in
+        rw (call-weights n ts ws bs scratch, on)
+        (repair-length n ts ls acc (units acc) ws len ∙ len, repair-light n ts ls acc (units acc) ws len light)
+
+    pub count-coordinates : repairCall n ts ws bs scratch .coordinates ≡ forward n ts (labels n ts) (repairCall n ts ws bs scratch .weights)
+    count-coordinates = rw (call-coordinates n ts ws bs scratch, call-weights n ts ws bs scratch, on) refl
+
+    -- So 10 finds nothing in them, and b0 of v0 is their total.
+    pub count-limits : row10 (repairCall n ts ws bs scratch .coordinates) ≡ false
+    count-limits = rw count-coordinates (accepted-forward n ts (labels n ts) acc (units acc) (repairCall n ts ws bs scratch .weights) count-weights .1)
+
+    pub count-total : coordinate (repairCall n ts ws bs scratch .coordinates) 0 (outer ts 0) ≡ total (repairCall n ts ws bs scratch .weights)
+    count-total =
+        rw (count-coordinates)
+        (outer-total n ts (labels n ts) (size n ts (labels n ts) acc (units acc)) (units acc) (repairCall n ts ws bs scratch .weights) (count-weights .0)
+        (seen n ts (labels n ts) acc (units acc)))
 
     -- Any count in its answer is the number of raises, of different triangles, at most 2n - 5 ..
     pub count-raises : count ≡ length (repair n ts (labels n ts) ws .raises)

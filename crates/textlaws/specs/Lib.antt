@@ -4,4 +4,5 @@ pub mod Scan
 pub mod Parts
 pub mod Layouts
 pub mod Reading
+pub mod Sizes
 pub mod Writing

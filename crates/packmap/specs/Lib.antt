@@ -1,0 +1,2 @@
+-- What packmap prints, for each answer of a job.
+pub mod Printed
