@@ -1,4 +1,5 @@
 // The public calls for callers in other languages, for tests and benchmarks. A slice is a pointer and a length. Each answers the number of its refusal, or 0.
+// The header `calls_c.h` in this crate's folder declares them for C.
 ghost use mathlib.Core.Path.{_≡_};
 ghost use Rattle.definitions.specs.Refusals.{checkCall, labelsCall, forwardCall, backwardCall, repairCall, snapCall};
 ghost use Rattle.calls_c.specs.Told.{numberOf, shareOf, repairNumber, countOf};
@@ -8,7 +9,6 @@ use mesh::MeshAnswer;
 use repair::RepairAnswer;
 use snap::SnapAnswer;
 
-// uint64_t mesh_check_c(size_t n, const uint16_t *triangles, size_t triangles_len, int64_t *scratch, size_t scratch_len);
 #[no_mangle]
 pub extern "C" fn mesh_check_c(n: usize, triangles: &[u16], scratch: &mut [i64]) -> u64
     ensures answer { λ r. ⌜ r ≡ numberOf (checkCall n (now (triangles .entry)) (now (scratch .entry)) .answer) ⌝ }
@@ -20,7 +20,6 @@ pub extern "C" fn mesh_check_c(n: usize, triangles: &[u16], scratch: &mut [i64])
     }
 }
 
-// uint64_t labels_c(size_t n, const uint16_t *triangles, size_t triangles_len, uint8_t *labels, size_t labels_len, int64_t *scratch, size_t scratch_len);
 #[no_mangle]
 pub extern "C" fn labels_c(
     n: usize,
@@ -38,8 +37,6 @@ pub extern "C" fn labels_c(
     }
 }
 
-// uint64_t forward_c(size_t n, const uint16_t *triangles, size_t triangles_len, const int64_t *weights, size_t weights_len, int64_t *coordinates,
-//     size_t coordinates_len, int64_t *scratch, size_t scratch_len);
 #[no_mangle]
 pub extern "C" fn forward_c(
     n: usize,
@@ -58,8 +55,6 @@ pub extern "C" fn forward_c(
     }
 }
 
-// uint64_t backward_c(size_t n, const uint16_t *triangles, size_t triangles_len, const int64_t *coordinates, size_t coordinates_len, int64_t *weights,
-//     size_t weights_len, int64_t *scratch, size_t scratch_len);
 #[no_mangle]
 pub extern "C" fn backward_c(
     n: usize,
@@ -78,8 +73,6 @@ pub extern "C" fn backward_c(
     }
 }
 
-// uint64_t repair_c(size_t n, const uint16_t *triangles, size_t triangles_len, int64_t *weights, size_t weights_len, int64_t *coordinates,
-//     size_t coordinates_len, int64_t *scratch, size_t scratch_len, uint64_t *count);
 // With 0 and 13 the count of raises is left behind `count`, which else keeps what it held.
 #[no_mangle]
 pub extern "C" fn repair_c(
@@ -110,7 +103,6 @@ pub extern "C" fn repair_c(
     }
 }
 
-// uint64_t snap_points_c(size_t n, const double *shares, size_t shares_len, uint32_t scale, int64_t *coordinates, size_t coordinates_len, double *outside);
 // With 16 the share is left behind `outside`, which else keeps what it held.
 #[no_mangle]
 pub extern "C" fn snap_points_c(

@@ -1,0 +1,78 @@
+/* Faults planted in the six calls. */
+#include "planted.h"
+
+#include "calls_c.h"
+
+/* The parameters of a call, and its arguments. */
+#define MESH size_t n, const uint16_t *triangles, size_t triangles_len
+#define SCRATCH int64_t *scratch, size_t scratch_len
+#define GIVEN_MESH n, triangles, triangles_len
+#define GIVEN_SCRATCH scratch, scratch_len
+
+uint64_t __real_mesh_check_c(MESH, SCRATCH);
+uint64_t __wrap_mesh_check_c(MESH, SCRATCH) {
+    if (planted("reads past the end"))
+        (void)*(volatile const uint16_t *)(triangles + triangles_len);
+    if (planted("reads before the start"))
+        (void)*(volatile const uint16_t *)(triangles - 1);
+    if (planted("leaks") && !malloc(1))
+        abort();
+    uint64_t number = __real_mesh_check_c(GIVEN_MESH, GIVEN_SCRATCH);
+    if (planted("another number") && number == 6)
+        return 5;
+    if (planted("scratch left dirty") && number == 7)
+        scratch[scratch_len - 1] = 1;
+    if (planted("scratch cleared on 2") && number == 2)
+        memset(scratch, 0, scratch_len * sizeof *scratch);
+    return number;
+}
+
+uint64_t __real_labels_c(MESH, uint8_t *labels, size_t labels_len, SCRATCH);
+uint64_t __wrap_labels_c(MESH, uint8_t *labels, size_t labels_len, SCRATCH) {
+    uint64_t number = __real_labels_c(GIVEN_MESH, labels, labels_len, GIVEN_SCRATCH);
+    if (planted("writes past the end") && number == 0)
+        labels[labels_len] = 0;
+    if (planted("writes before the start") && number == 0)
+        labels[-1] = 0;
+    return number;
+}
+
+uint64_t __real_forward_c(MESH, const int64_t *weights, size_t weights_len, int64_t *b, size_t b_len, SCRATCH);
+uint64_t __wrap_forward_c(MESH, const int64_t *weights, size_t weights_len, int64_t *b, size_t b_len, SCRATCH) {
+    if (planted("too long is let through") && b_len == 3 * n + 1)
+        b_len--;
+    if (planted("looks at what it only writes") && b_len > 0 && b[0] == 42)
+        return 0;
+    uint64_t number = __real_forward_c(GIVEN_MESH, weights, weights_len, b, b_len, GIVEN_SCRATCH);
+    if (planted("writes although refused") && number == 9)
+        b[0] = 0;
+    return number;
+}
+
+uint64_t __real_backward_c(MESH, const int64_t *b, size_t b_len, int64_t *weights, size_t weights_len, SCRATCH);
+uint64_t __wrap_backward_c(MESH, const int64_t *b, size_t b_len, int64_t *weights, size_t weights_len, SCRATCH) {
+    uint64_t number = __real_backward_c(GIVEN_MESH, b, b_len, weights, weights_len, GIVEN_SCRATCH);
+    if (planted("changes what it only reads") && number == 0)
+        ((int64_t *)b)[b_len - 1]++;
+    return number;
+}
+
+uint64_t __real_repair_c(MESH, int64_t *weights, size_t weights_len, int64_t *b, size_t b_len, SCRATCH,
+                         uint64_t *count);
+uint64_t __wrap_repair_c(MESH, int64_t *weights, size_t weights_len, int64_t *b, size_t b_len, SCRATCH,
+                         uint64_t *count) {
+    uint64_t number = __real_repair_c(GIVEN_MESH, weights, weights_len, b, b_len, GIVEN_SCRATCH, count);
+    if (planted("counts the raise that 13 refuses") && number == 13)
+        ++*count;
+    return number;
+}
+
+uint64_t __real_snap_points_c(size_t n, const double *shares, size_t shares_len, uint32_t scale, int64_t *b,
+                              size_t b_len, double *outside);
+uint64_t __wrap_snap_points_c(size_t n, const double *shares, size_t shares_len, uint32_t scale, int64_t *b,
+                              size_t b_len, double *outside) {
+    uint64_t number = __real_snap_points_c(n, shares, shares_len, scale, b, b_len, outside);
+    if (planted("tells a share with 15") && number == 15)
+        *outside = shares[0];
+    return number;
+}

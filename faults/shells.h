@@ -1,0 +1,109 @@
+/* Meshes whose answers are known from document 01 without a program: its own shells, and a stack of any size.
+ *
+ * The stack: vertex 2 on top, 3 to n - 1 below it in turn, all joined to 0 and 1. Its inner triangles, in order, are
+ * for each k from 3 to n - 1 a left one (0, k, k - 1) and a right one (k, 1, k - 1), then the last, (0, 1, n - 1).
+ * Peeling takes 2, 3, .. in turn, so all labels are 0, 1, 2. A left triangle's walk goes down through the left ones
+ * below it, and the path of k to v0 is the side from k to 0; so b1 of k is the sum of the left weights from 3 to k, and
+ * b0 that of the right ones. */
+#ifndef SHELLS_H
+#define SHELLS_H
+
+#include <stddef.h>
+#include <stdint.h>
+#include <string.h>
+
+#define L 1073741823
+
+enum { MOST = 4096, CORNERS = 3 * (2 * MOST - 4), WEIGHTS_MOST = 2 * MOST - 5 };
+
+static const uint16_t PAIR[] = {0, 2, 1, 0, 1, 2};
+static const uint16_t TETRA[] = {0, 2, 1, 0, 3, 2, 3, 1, 2, 0, 1, 3};
+static const uint16_t FIVE[] = {0, 2, 1, 0, 3, 2, 3, 1, 2, 0, 1, 4, 1, 3, 4, 3, 0, 4};
+
+/* The examples of rows 3 to 8. */
+static const uint16_t ROW3[] = {0, 2, 1, 0, 1, 3};
+static const uint16_t ROW4[] = {0, 2, 1, 0, 0, 1};
+static const uint16_t ROW5[] = {0, 2, 1, 0, 2, 1};
+static const uint16_t ROW6[] = {0, 1, 2, 0, 2, 3, 0, 3, 4, 0, 4, 5, 0, 5, 1, 1, 5, 4, 1, 4, 3, 2, 5, 3};
+static const uint16_t ROW7[] = {0, 1, 3, 1, 2, 3, 2, 0, 3, 1, 0, 4, 2, 1, 4, 0, 2, 4,
+                                5, 6, 3, 6, 7, 3, 7, 5, 3, 6, 5, 4, 7, 6, 4, 5, 7, 4};
+static const uint16_t ROW8[] = {0, 2, 1, 0, 3, 2,  3, 1,  2, 0, 1, 3, 4, 5, 7,  4, 7,  6, 5, 6, 8, 5,  8, 7, 6,  7, 9,
+                                6, 9, 8, 7, 8, 10, 7, 10, 9, 8, 9, 4, 8, 4, 10, 9, 10, 5, 9, 5, 4, 10, 4, 6, 10, 6, 5};
+
+static inline uint16_t *triple(uint16_t *to, size_t a, size_t b, size_t c) {
+    to[0] = (uint16_t)a, to[1] = (uint16_t)b, to[2] = (uint16_t)c;
+    return to + 3;
+}
+
+/* The stack on n vertices, n being 3 or more; where its list ends. */
+static inline uint16_t *stack(size_t n, uint16_t *to) {
+    to = triple(to, 0, 2, 1);
+    for (size_t k = 3; k < n; k++) {
+        to = triple(to, 0, k, k - 1);
+        to = triple(to, k, 1, k - 1);
+    }
+    return triple(to, 0, 1, n - 1);
+}
+
+/* The coordinates of weights on the stack. */
+static inline void stack_coordinates(size_t n, const int64_t *weights, int64_t *b) {
+    int64_t sum = 0, left = 0, right = 0;
+    for (size_t t = 0; t < 2 * n - 5; t++)
+        sum += weights[t];
+    memset(b, 0, 9 * sizeof *b);
+    b[0] = b[4] = b[8] = sum;
+    for (size_t k = 3; k < n; k++) {
+        left += weights[2 * (k - 3)];
+        right += weights[2 * (k - 3) + 1];
+        b[3 * k] = right, b[3 * k + 1] = left, b[3 * k + 2] = sum - left - right;
+    }
+}
+
+/* What repair makes of weights that are all 0 on the stack, n being 4 or more; the number of raises. All areas are 0
+ * and each raise is by 1: the left and the right triangle at 3, after which the right ones below stand upright with
+ * weight 0; each left one in turn; the last. */
+static inline uint64_t stack_raised(size_t n, int64_t *weights) {
+    for (size_t t = 0; t < 2 * n - 5; t++)
+        weights[t] = t % 2 == 0 || t == 1;
+    return n - 1;
+}
+
+/* A stack of n vertices, n being 16 or more, damaged so that a row from 3 to 8 refuses it. Rows 3 and 4 hold over the
+ * whole mesh before a later row is looked at, so an earlier triangle breaks the next row. */
+static inline void damaged_stack(size_t n, int row, uint16_t *to) {
+    uint16_t *last = to + 3 * (2 * n - 5), *end;
+    stack(n, to);
+    switch (row) {
+    case 3:
+        triple(to + 3, 0, 3, 3);
+        triple(last, 0, 1, n);
+        break;
+    case 4:
+        triple(to + 6, 0, 3, 2);
+        triple(last, 0, n - 1, n - 1);
+        break;
+    case 5:
+        triple(last, 3, 2, 0);
+        break;
+    case 6:
+        triple(last, 2, n - 2, n - 4);
+        break;
+    case 7: /* a stack and a double pyramid over three more vertices, which share both tips */
+        end = stack(n - 3, to);
+        for (size_t k = 0; k < 3; k++) {
+            size_t a = n - 3 + k, b = n - 3 + (k + 1) % 3;
+            end = triple(end, a, b, 2);
+            end = triple(end, b, a, n - 4);
+        }
+        break;
+    case 8: /* a stack and the torus of document 01 */
+        end = stack(n - 7, to);
+        for (size_t k = 0; k < 7; k++) {
+            end = triple(end, n - 7 + k, n - 7 + (k + 1) % 7, n - 7 + (k + 3) % 7);
+            end = triple(end, n - 7 + k, n - 7 + (k + 3) % 7, n - 7 + (k + 2) % 7);
+        }
+        break;
+    }
+}
+
+#endif

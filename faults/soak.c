@@ -1,0 +1,154 @@
+/* A million calls, of all kinds, refused and accepted; the memory of the process after the first of them and after the
+ * last has to be the same. The last line is '1 passed, 0 failed', or the other way round.
+ *
+ * VmData counts the bytes that the process has mapped for data, and Anonymous with Swap the pages of them that it has
+ * ever touched and still has. The kernel finds the latter by walking the page tables, so neither depends on the page
+ * cache or on counters that lag behind, and both have to be equal. Every answer is looked at too. */
+#include <math.h>
+#include <stdbool.h>
+#include <stdio.h>
+#include <stdlib.h>
+
+#include "calls_c.h"
+#include "packmap.h"
+#include "shells.h"
+
+enum { CALLS = 1000000, WARM = 10000, SMALL = 16, LISTING = 64 };
+enum call { CHECK, LABELS, FORWARD, BACKWARD, REPAIR, SNAP, JOB };
+
+#define TETRA_TEXT "pack-map\t4\nt\t0\t2\t1\nt\t0\t3\t2\nt\t3\t1\t2\nt\t0\t1\t3\n"
+
+static uint16_t pile[3 * (2 * SMALL - 4)]; /* the stack on 16 vertices */
+static char too_long[16385 + 1];           /* a text, without its 0 */
+
+static const struct step {
+    enum call call;
+    uint64_t due;
+    size_t n;
+    const uint16_t *triangles;
+    int64_t numbers[12]; /* weights or coordinates, 0 from there on */
+    double shares[6];
+    uint32_t scale;
+    size_t cut; /* by how much scratch, coordinates of drawn points or listing are too short */
+    const char *text;
+} STEPS[] = {
+    {CHECK, 0, 4, .triangles = TETRA},
+    {CHECK, 0, SMALL, .triangles = pile},
+    {CHECK, 1, 2, .triangles = PAIR},
+    {CHECK, 2, 4, .triangles = TETRA, .cut = 1},
+    {CHECK, 3, 3, .triangles = ROW3},
+    {CHECK, 4, 3, .triangles = ROW4},
+    {CHECK, 5, 3, .triangles = ROW5},
+    {CHECK, 6, 6, .triangles = ROW6},
+    {CHECK, 7, 8, .triangles = ROW7},
+    {CHECK, 8, 11, .triangles = ROW8},
+    {LABELS, 0, 5, .triangles = FIVE},
+    {LABELS, 0, SMALL, .triangles = pile},
+    {LABELS, 8, 11, .triangles = ROW8},
+    {FORWARD, 0, 4, .triangles = TETRA, .numbers = {5, 3, 2}},
+    {FORWARD, 0, SMALL, .triangles = pile, .numbers = {5, 3, 2, -7}},
+    {FORWARD, 9, 4, .triangles = TETRA, .numbers = {L, 1, 0}},
+    {BACKWARD, 0, 4, .triangles = TETRA, .numbers = {10, 0, 0, 0, 10, 0, 0, 0, 10, 3, 5, 2}},
+    {BACKWARD, 9, 4, .triangles = TETRA, .numbers = {1, 0, 0, 0, 1, 0, 0, 0, 1, L, -L, 1}},
+    {BACKWARD, 10, 4, .triangles = TETRA, .numbers = {1, 0, 0, 0, 1, 0, 0, 0, 1, L + 1, -L, 0}},
+    {BACKWARD, 11, 4, .triangles = TETRA, .numbers = {9, 0, 0, 1, 8, 0, 0, 0, 9, 3, 5, 1}},
+    {BACKWARD, 12, 4, .triangles = TETRA, .numbers = {9, 0, 0, 0, 9, 0, 0, 0, 9, 3, 5, 2}},
+    {REPAIR, 0, 4, .triangles = TETRA, .numbers = {5, 3, -1}},
+    {REPAIR, 0, SMALL, .triangles = pile},
+    {REPAIR, 9, 4, .triangles = TETRA, .numbers = {L, 1, 0}},
+    {REPAIR, 13, 4, .triangles = TETRA, .numbers = {1, -1073741821, 1}},
+    {SNAP, 0, 3, .shares = {0.5, -0.0, 1, 2, -1, 0.1}, .scale = 4},
+    {SNAP, 2, 3, .scale = 4, .cut = 1},
+    {SNAP, 14, 3, .scale = 25},
+    {SNAP, 15, 3, .shares = {INFINITY}},
+    {SNAP, 16, 3, .shares = {0, 0, 0, 0, 0, 2.5}},
+    {JOB, 55, .text = TETRA_TEXT "w\t5\nw\t3\nw\t-1\n"},
+    {JOB, 65536 + 1, .text = "pack-map\t2\n"},
+    {JOB, 65536 + 4, .text = "pack-map\t3\nt\t0\t2\t1\nt\t0\t0\t1\nw\t0\n"},
+    {JOB, 65536 + 9, .text = TETRA_TEXT "w\t1073741823\nw\t1\nw\t0\n"},
+    {JOB, 65536 + 13, .text = TETRA_TEXT "w\t1\nw\t-1073741821\nw\t1\n"},
+    {JOB, 65536 * 9 + 17, .text = TETRA_TEXT "w\t5\nw\t3\nw\t-0\n"},
+    {JOB, 65536 + 18, .text = TETRA_TEXT "w\t5\nw\t3\nw\t-1\n", .cut = LISTING - 54},
+    {JOB, 65536 + 19, .text = too_long},
+};
+enum { STEP_COUNT = sizeof STEPS / sizeof *STEPS };
+
+static uint64_t make(const struct step *s) {
+    static int64_t scratch[24 * SMALL], weights[2 * SMALL - 5], coordinates[3 * SMALL];
+    static uint8_t labels[3 * (2 * SMALL - 5)], listing[LISTING];
+    uint64_t count;
+    double outside;
+    const size_t n = s->n, t = 3 * (2 * n - 4), w = 2 * n - 5, b = 3 * n, left = 24 * n - s->cut;
+    switch (s->call) {
+    case CHECK:
+        return mesh_check_c(n, s->triangles, t, scratch, left);
+    case LABELS:
+        return labels_c(n, s->triangles, t, labels, 3 * w, scratch, left);
+    case FORWARD:
+        memset(weights, 0, sizeof weights);
+        memcpy(weights, s->numbers, sizeof s->numbers);
+        return forward_c(n, s->triangles, t, weights, w, coordinates, b, scratch, left);
+    case BACKWARD:
+        return backward_c(n, s->triangles, t, s->numbers, b, weights, w, scratch, left);
+    case REPAIR:
+        memset(weights, 0, sizeof weights);
+        memcpy(weights, s->numbers, sizeof s->numbers);
+        return repair_c(n, s->triangles, t, weights, w, coordinates, b, scratch, left, &count);
+    case SNAP:
+        return snap_points_c(n, s->shares, 2 * n, s->scale, coordinates, b - s->cut, &outside);
+    default:
+        return packmap_job((const uint8_t *)s->text, strlen(s->text), listing, sizeof listing - s->cut);
+    }
+}
+
+struct memory {
+    long data, touched; /* kB */
+};
+
+/* The number behind a name in a file of /proc. */
+static long told(const char *file, const char *name) {
+    char line[256];
+    long kB = -1;
+    FILE *from = fopen(file, "r");
+    while (from && fgets(line, sizeof line, from))
+        if (strncmp(line, name, strlen(name)) == 0)
+            kB = strtol(line + strlen(name), NULL, 10);
+    if (from)
+        fclose(from);
+    if (kB < 0) {
+        fprintf(stderr, "%s does not tell %s\n", file, name);
+        exit(2);
+    }
+    return kB;
+}
+
+static struct memory memory(void) {
+    const char *pages = "/proc/self/smaps_rollup";
+    return (struct memory){told("/proc/self/status", "VmData:"), told(pages, "Anonymous:") + told(pages, "Swap:")};
+}
+
+int main(void) {
+    uint32_t random = 1;
+    unsigned long wrong = 0;
+    struct memory first = memory(), last;
+    stack(SMALL, pile);
+    memset(too_long, '\n', sizeof too_long - 1);
+    for (unsigned long k = 1; k <= CALLS; k++) {
+        /* each kind in turn at first, then at random */
+        random = 1664525 * random + 1013904223;
+        const struct step *s = &STEPS[k <= STEP_COUNT ? k - 1 : (random >> 8) % STEP_COUNT];
+        uint64_t answer = make(s);
+        if (answer != s->due && wrong++ < 10)
+            printf("step %d: %llu due, %llu answered\n", (int)(s - STEPS), (unsigned long long)s->due,
+                   (unsigned long long)answer);
+        if (k == WARM)
+            first = memory();
+    }
+    last = memory();
+    printf(
+        "%d calls of %d kinds; after %d: data %ld kB, touched %ld kB; at the end: %ld kB, %ld kB; wrong answers: %lu\n",
+        CALLS, STEP_COUNT, WARM, first.data, first.touched, last.data, last.touched, wrong);
+    bool good = wrong == 0 && first.data == last.data && first.touched == last.touched;
+    puts(good ? "1 passed, 0 failed" : "0 passed, 1 failed");
+    return !good;
+}
