@@ -8,6 +8,7 @@
 #include <chrono>
 #include <cstdio>
 #include <cstdlib>
+#include <ctime>
 #include <vector>
 
 struct Mesh {
@@ -27,15 +28,23 @@ inline Mesh read_mesh() {
     return mesh;
 }
 
-// The least time of a call: 7 to 50 runs, and no more than 7 after 0.4 seconds.
+// Seconds that this program has been on a processor.
+inline double on_processor() {
+    timespec time;
+    clock_gettime(CLOCK_PROCESS_CPUTIME_ID, &time);
+    return time.tv_sec + 1e-9 * time.tv_nsec;
+}
+
+// The time of a call, less what other programs took of it: the least of 7 to 50 runs, and no more than 7 after 0.4 seconds.
 template <class Call> double least(Call call) {
     using clock = std::chrono::steady_clock;
     double best = 1e300, sum = 0;
     for (int run = 0; run < 7 || (run < 50 && sum < 0.4); run++) {
+        double before = on_processor();
         auto start = clock::now();
         call();
         double time = std::chrono::duration<double>(clock::now() - start).count();
-        best = std::min(best, time);
+        best = std::min({best, time, on_processor() - before});
         sum += time;
     }
     return best * 1e6;

@@ -1,15 +1,18 @@
 //! Times of the proved calls and of the second program's, on the same spheres,
 //! and these spheres for other programs.
 //!
-//!     bench time N SEED                  a line for each call: its name, microseconds of the
-//!                                        proved one, of the second program's, and its raises
+//!     bench time N SEED                  a line for each row that n has: its name, microseconds
+//!                                        of the proved call, of the second program's, and raises
 //!     bench mesh N SEED SHAPE            n, then a triple of vertices a line, the outer one first
 //!     bench draw N SEED SHAPE PROGRAM    microseconds of forward with all weights 1, then b0 and
-//!                                        b1 of each vertex a line; PROGRAM is proved or second
+//!                                        b1 of each vertex a line
+//!     bench one ROW N SEED PROGRAM       one run of a row's call, in the function `measured`, for
+//!                                        counting instructions
 //!
-//! SHAPE is random or nest. Fields of a line of times are parted by tabs, and '-'
-//! stands where there is nothing to tell. A time is the least of several runs,
-//! the two programs taking turns; both must answer and write the same.
+//! SHAPE is random or nest, PROGRAM proved or second, ROW the first word of a row
+//! below. Fields of a line of times are parted by tabs, and '-' stands where there
+//! is nothing to tell. A time is the least of several runs, the two programs
+//! taking turns; both must answer and write the same, and none may refuse.
 
 mod proved;
 mod second;
@@ -24,19 +27,80 @@ use std::time::{Duration, Instant};
 const RUNS: std::ops::Range<usize> = 7..50;
 const ENOUGH: Duration = Duration::from_millis(400);
 
-/// Rows of the table: name, call, shape, kind of weights. In a nest every
-/// triangle is raised, 2n - 5 of them.
-const ROWS: [(&str, &str, &str, &str); 9] = [
-    ("check", "check", "random", "unit"),
-    ("labels", "labels", "random", "unit"),
-    ("forward", "forward", "random", "positive"),
-    ("backward", "backward", "random", "positive"),
-    ("repair, random weights", "repair", "random", "signed"),
-    ("repair, all zero", "repair", "random", "zero"),
-    ("repair, all zero, nest", "repair", "nest", "zero"),
-    ("snapping", "snapping", "random", "unit"),
-    ("whole job", "job", "random", "signed"),
+/// A row of the table.
+struct Row {
+    word: &'static str,
+    name: &'static str,
+    call: &'static str,
+    shape: &'static str,
+    weights: &'static str,
+}
+
+const fn row(word: &'static str, name: &'static str, set: [&'static str; 3]) -> Row {
+    let [call, shape, weights] = set;
+    Row {
+        word,
+        name,
+        call,
+        shape,
+        weights,
+    }
+}
+
+/// On a nest with all weights zero every triangle is raised, 2n - 5 of them.
+const ROWS: [Row; 9] = [
+    row("check", "check", ["check", "random", "unit"]),
+    row("labels", "labels", ["labels", "random", "unit"]),
+    row("forward", "forward", ["forward", "random", "positive"]),
+    row("backward", "backward", ["backward", "random", "positive"]),
+    row(
+        "repair",
+        "repair, random weights",
+        ["repair", "random", "signed"],
+    ),
+    row(
+        "zero",
+        "repair, all zero, random sphere",
+        ["repair", "random", "zero"],
+    ),
+    row(
+        "nest",
+        "repair, all zero, nest: 2n - 5 raises",
+        ["repair", "nest", "zero"],
+    ),
+    row("snapping", "snapping", ["snapping", "random", "unit"]),
+    row("job", "whole job", ["job", "random", "signed"]),
 ];
+
+impl Row {
+    /// Whether there is such a call for n; a job text has its own limit.
+    fn has(&self, n: usize) -> bool {
+        self.call != "job" || TEXT_VERTICES.contains(&n)
+    }
+
+    fn start(&self, n: usize, seed: u64) -> Lent {
+        let mut start = Lent::new(n, seed, self.shape);
+        start.weigh(seed, self.weights);
+        start
+    }
+
+    /// Whether an answer tells of a refusal.
+    fn refused(&self, answer: u64) -> bool {
+        answer >= if self.call == "job" { 65_536 } else { REFUSED }
+    }
+}
+
+/// Past every count of raises.
+const REFUSED: u64 = 1 << 32;
+
+/// A call's answer from the number of its refusal, which is 0 for none.
+fn answer(number: u64) -> u64 {
+    if number == 0 {
+        0
+    } else {
+        REFUSED | number
+    }
+}
 
 /// What a call reads and writes. Its answer is 0, the count of raises, the
 /// length of a listing, or whatever says that it was refused.
@@ -102,6 +166,26 @@ impl Lent {
     }
 }
 
+extern "C" {
+    fn clock_gettime(clock: i32, time: *mut [i64; 2]) -> i32;
+}
+
+/// How long this program has been on a processor.
+fn on_processor() -> Duration {
+    const PROCESS_CPUTIME: i32 = 2;
+    let mut time = [0; 2];
+    unsafe { clock_gettime(PROCESS_CPUTIME, &mut time) };
+    Duration::new(time[0] as u64, time[1] as u32)
+}
+
+/// The time of a call, less what other programs took of it.
+fn clock(call: impl FnOnce()) -> Duration {
+    let before = on_processor();
+    let now = Instant::now();
+    call();
+    now.elapsed().min(on_processor() - before)
+}
+
 /// Answers and least times of calls that take turns on the same input, and what
 /// they leave.
 fn race(calls: &[Call], start: &Lent) -> Vec<(u64, Duration, Lent)> {
@@ -115,9 +199,8 @@ fn race(calls: &[Call], start: &Lent) -> Vec<(u64, Duration, Lent)> {
         for (call, (answer, least, lent)) in calls.iter().zip(&mut ends) {
             lent.weights.copy_from_slice(&start.weights);
             lent.coordinates.copy_from_slice(&start.coordinates);
-            let now = Instant::now();
-            *answer = call(&mut work, lent);
-            *least = now.elapsed().min(*least);
+            let time = clock(|| *answer = call(&mut work, lent));
+            *least = time.min(*least);
         }
         if run >= RUNS.start && begin.elapsed() > ENOUGH {
             break;
@@ -138,34 +221,35 @@ fn mesh(n: usize, seed: u64, shape: &str) {
 }
 
 fn time(n: usize, seed: u64) -> Result<(), String> {
-    for (name, call, shape, kind) in ROWS {
-        if call == "job" && !TEXT_VERTICES.contains(&n) {
-            continue;
-        }
-        let mut start = Lent::new(n, seed, shape);
-        start.weigh(seed, kind);
-        let mut calls = vec![second::call(call)];
-        calls.extend(proved::call(call));
-        let ends = race(&calls, &start);
+    for row in ROWS.iter().filter(|row| row.has(n)) {
+        let mut calls = vec![second::call(row.call)];
+        calls.extend(proved::call(row.call));
+        let ends = race(&calls, &row.start(n, seed));
         let (answer, second, left) = &ends[0];
-        if ends.iter().any(|end| end.0 != *answer || end.2 != *left) {
-            return Err(format!("{name} differs at n = {n}, seed {seed}"));
+        let same = ends.iter().all(|end| end.0 == *answer && end.2 == *left);
+        if !same || row.refused(*answer) {
+            let what = if same { "is refused" } else { "differs" };
+            return Err(format!("{} {what} at n = {n}, seed {seed}", row.name));
         }
         let proved = ends.get(1).map_or("-".into(), |end| micros(end.1));
-        let raises = match call {
+        let raises = match row.call {
             "repair" => answer.to_string(),
             _ => "-".into(),
         };
-        println!("{name}\t{proved}\t{}\t{raises}", micros(*second));
+        println!("{}\t{proved}\t{}\t{raises}", row.name, micros(*second));
     }
     Ok(())
 }
 
+fn find(call: &str, program: &str) -> Result<Call, String> {
+    match program {
+        "proved" => proved::call(call).ok_or(format!("{call} is not built")),
+        _ => Ok(second::call(call)),
+    }
+}
+
 fn draw(n: usize, seed: u64, shape: &str, program: &str) -> Result<(), String> {
-    let call = match program {
-        "proved" => proved::call("forward").ok_or("forward is not built")?,
-        _ => second::call("forward"),
-    };
+    let call = find("forward", program)?;
     let mut start = Lent::new(n, seed, shape);
     start.weigh(seed, "unit");
     let (_, least, left) = &race(&[call], &start)[0];
@@ -176,23 +260,44 @@ fn draw(n: usize, seed: u64, shape: &str, program: &str) -> Result<(), String> {
     Ok(())
 }
 
+#[inline(never)]
+fn measured(call: Call, work: &mut Work, lent: &mut Lent) -> u64 {
+    call(work, lent)
+}
+
+fn one(row: &Row, n: usize, seed: u64, program: &str) -> Result<(), String> {
+    let call = find(row.call, program)?;
+    let mut work = Work::default();
+    let start = row.start(n, seed);
+    // The second program keeps its buffers from call to call.
+    if program == "second" {
+        call(&mut work, &mut start.clone());
+    }
+    println!("{}", measured(call, &mut work, &mut start.clone()));
+    Ok(())
+}
+
 /// None where the words make no command.
 fn run(words: &[&str]) -> Option<Result<(), String>> {
-    let n = words
-        .get(1)?
-        .parse()
-        .ok()
-        .filter(|n| VERTICES.contains(n))?;
-    let seed = words.get(2)?.parse().ok()?;
-    match (words[0], &words[3..]) {
-        ("time", []) => Some(time(n, seed)),
-        ("mesh", [shape @ ("random" | "nest")]) => {
-            mesh(n, seed, shape);
-            Some(Ok(()))
+    let number = |k: usize| words.get(k)?.parse::<usize>().ok();
+    let size = |k: usize| number(k).filter(|n| VERTICES.contains(n));
+    let seed = |k: usize| number(k).map(|seed| seed as u64);
+    Some(match words {
+        ["time", _, _] => time(size(1)?, seed(2)?),
+        ["mesh", _, _, shape @ ("random" | "nest")] => {
+            mesh(size(1)?, seed(2)?, shape);
+            Ok(())
         }
-        ("draw", [shape @ ("random" | "nest"), program]) => Some(draw(n, seed, shape, program)),
-        _ => None,
-    }
+        ["draw", _, _, shape @ ("random" | "nest"), program @ ("proved" | "second")] => {
+            draw(size(1)?, seed(2)?, shape, program)
+        }
+        ["one", word, _, _, program @ ("proved" | "second")] => {
+            let (n, seed) = (size(2)?, seed(3)?);
+            let row = ROWS.iter().find(|row| row.word == *word && row.has(n))?;
+            one(row, n, seed, program)
+        }
+        _ => return None,
+    })
 }
 
 fn main() -> ExitCode {
@@ -205,9 +310,8 @@ fn main() -> ExitCode {
             ExitCode::FAILURE
         }
         None => {
-            eprintln!(
-                "bench time N SEED\nbench mesh N SEED SHAPE\nbench draw N SEED SHAPE PROGRAM"
-            );
+            eprintln!("bench time N SEED\nbench mesh N SEED SHAPE");
+            eprintln!("bench draw N SEED SHAPE PROGRAM\nbench one ROW N SEED PROGRAM");
             ExitCode::from(2)
         }
     }

@@ -1,5 +1,5 @@
-//! The proved calls by name, as far as `calls_c` has them. They answer as the
-//! second program's do here; a refusal would be a difference of its own.
+//! The proved calls by name, where their library is built: `calls_c`, and `job`
+//! for the whole job.
 
 use crate::Call;
 
@@ -7,15 +7,75 @@ use crate::Call;
 #[path = "../../compare/src/calls.rs"]
 mod calls;
 
+#[cfg(job)]
+#[path = "../../compare/src/host.rs"]
+mod host;
+
 #[cfg(proved)]
-pub fn call(name: &str) -> Option<Call> {
-    match name {
-        "snapping" => Some(|_, l| calls::snap(l.n, &l.shares, 0, &mut l.coordinates).0),
-        _ => None,
-    }
+fn of_calls_c(name: &str) -> Option<Call> {
+    use crate::answer;
+    let call: Call = match name {
+        "check" => |_, l| answer(calls::check(l.n, &l.triangles, &mut l.scratch)),
+        "labels" => |_, l| {
+            answer(calls::labels(
+                l.n,
+                &l.triangles,
+                &mut l.labels,
+                &mut l.scratch,
+            ))
+        },
+        "forward" => |_, l| {
+            answer(calls::forward(
+                l.n,
+                &l.triangles,
+                &l.weights,
+                &mut l.coordinates,
+                &mut l.scratch,
+            ))
+        },
+        "backward" => |_, l| {
+            answer(calls::backward(
+                l.n,
+                &l.triangles,
+                &l.coordinates,
+                &mut l.weights,
+                &mut l.scratch,
+            ))
+        },
+        "repair" => |_, l| {
+            let (number, raises) = calls::repair(
+                l.n,
+                &l.triangles,
+                &mut l.weights,
+                &mut l.coordinates,
+                &mut l.scratch,
+            );
+            answer(number) + raises
+        },
+        "snapping" => |_, l| answer(calls::snap(l.n, &l.shares, 0, &mut l.coordinates).0),
+        _ => return None,
+    };
+    Some(call)
 }
 
 #[cfg(not(proved))]
-pub fn call(_: &str) -> Option<Call> {
+fn of_calls_c(_: &str) -> Option<Call> {
     None
+}
+
+#[cfg(job)]
+fn of_job() -> Option<Call> {
+    Some(|_, l| host::host(&l.text, &mut l.listing))
+}
+
+#[cfg(not(job))]
+fn of_job() -> Option<Call> {
+    None
+}
+
+pub fn call(name: &str) -> Option<Call> {
+    match name {
+        "job" => of_job(),
+        _ => of_calls_c(name),
+    }
 }

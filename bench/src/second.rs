@@ -1,22 +1,18 @@
 //! The second program's calls by name.
 
-use crate::Call;
+use crate::{answer, Call};
 use peer::{labels, maps, mesh, repair, snap, text, Answer};
 
-/// 0, or the number of the refusal past all lengths and counts.
-fn answer(answer: Answer<()>) -> u64 {
-    answer.map_or_else(|refusal| refused(refusal.number), |()| 0)
-}
-
-fn refused(number: u8) -> u64 {
-    1 << 32 | u64::from(number)
+/// 0, or what stands for the refusal.
+fn done(call: Answer<()>) -> u64 {
+    answer(call.map_or_else(|refusal| refusal.number.into(), |()| 0))
 }
 
 pub fn call(name: &str) -> Call {
     match name {
-        "check" => |w, l| answer(mesh::check(w, l.n, &l.triangles, &mut l.scratch)),
+        "check" => |w, l| done(mesh::check(w, l.n, &l.triangles, &mut l.scratch)),
         "labels" => |w, l| {
-            answer(labels::labels(
+            done(labels::labels(
                 w,
                 l.n,
                 &l.triangles,
@@ -25,7 +21,7 @@ pub fn call(name: &str) -> Call {
             ))
         },
         "forward" => |w, l| {
-            answer(maps::forward(
+            done(maps::forward(
                 w,
                 l.n,
                 &l.triangles,
@@ -35,7 +31,7 @@ pub fn call(name: &str) -> Call {
             ))
         },
         "backward" => |w, l| {
-            answer(maps::backward(
+            done(maps::backward(
                 w,
                 l.n,
                 &l.triangles,
@@ -53,9 +49,12 @@ pub fn call(name: &str) -> Call {
                 &mut l.coordinates,
                 &mut l.scratch,
             );
-            made.map_or_else(|refusal| refused(refusal.number), |raises| raises as u64)
+            made.map_or_else(
+                |refusal| answer(refusal.number.into()),
+                |raises| raises as u64,
+            )
         },
-        "snapping" => |_, l| answer(snap::snap(l.n, 0, &l.shares, &mut l.coordinates)),
+        "snapping" => |_, l| done(snap::snap(l.n, 0, &l.shares, &mut l.coordinates)),
         "job" => |w, l| text::host(w, &l.text, &mut l.listing),
         _ => unreachable!("a call that there is"),
     }
