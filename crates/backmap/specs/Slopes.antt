@@ -1,188 +1,291 @@
--- The backward map from the words of the darts, w, in the order of the code; on a labelled mesh it is the definition's. Assumes nothing.
-use Prim.Native.Nat.{ℕ, _+_, _-_, _*_, _/_, _<_}
-use mathlib.Core.Path.{_≡_, sym, ap, _∙_}
-use mathlib.Core.Logic.{⊎-elim}
-use mathlib.Core.Bool.{Bool, true, false, _&&_, _||_, cond}
+-- The backward map from the words of the darts, w, in the order of the code; where row 11 finds nothing it is the definition's. Assumes nothing.
+-- The colour of a triangle's side shows in one label: that of the triangle across, at the tip of the side's dart. The outer triangle's corners have label 3.
+use Prim.Native.Nat.{ℕ, _+_, _-_, _*_, _/_, _%_, _<_}
+use mathlib.Core.Path.{_≡_, refl, sym, ap, _∙_, subst}
+use mathlib.Core.Logic.{_≢_, inl, inr}
+use mathlib.Core.Bool.{false, cond}
 use mathlib.Core.List.{List, map}
 use native.Mathlib.Omega.{arith}
+use native.Mathlib.Decide.{ℕ-discrete}
 use lib.Dec.{eqb}
-use lib.ListN.{length, getD, set}
+use lib.ListN.{length, getD}
 use lib.IntN.{ℤ, pos, _-ℤ_}
-use Rattle.definitions.specs.Words.{run, seek}
-use Rattle.definitions.specs.Mesh.{tri, next, prev, corners, org, tip, opp, inner}
-use Rattle.definitions.specs.Labels.{outer, label, corner, rim, points}
-use Rattle.definitions.specs.Backward.{coordinate, fall, slope, weightAt, backward}
-use Rattle.tables.specs.Tables.{view}
-use Rattle.stage.specs.Stage.{Labelled, across, tag, whole, opp-in, across-is, tag-is}
-use Rattle.laws.specs.Lists.{run-in, seek-same}
-use Rattle.laws.specs.Tabulated.{seek-either, length-table, Filled, filled-more}
-use Rattle.laws.specs.Multiples.{map-run-same, getD-map-run}
 use borrow.Author.Tests.{eq-eqb, ne-eqb}
-use native.Mathlib.Numerals.{add-one, add-two}
+use Rattle.definitions.specs.Mesh.{tri, next, prev, org, opp, inner}
+use Rattle.definitions.specs.Labels.{outer, label}
+use Rattle.definitions.specs.Backward.{coordinate, fall, slope, weightAt, backward}
+use Rattle.definitions.specs.Refusals.{row11}
+use Rattle.laws.specs.Tabulated.{length-table}
+use Rattle.laws.specs.Multiples.{map-run-same, getD-map-run}
+use Rattle.sphere.specs.Darts.{tri-next, tri-prev, next-next, next-prev, next-below, prev-below, outer-tri}
+use Rattle.sphere.specs.Turns.{tip-opp}
+use Rattle.realizer.specs.Trace.{edge}
+use Rattle.realizer.specs.Realizer.{Rim, inside, along}
+use Rattle.crossings.specs.Colours.{Apex, Fanning, cycle, fanning, apex, apex-passed, apex-labels, exit, rim-two, rim-two′, from-v1-to-v0, from-v2-to-v0, from-v2-to-v1}
+use Rattle.crossings.specs.Tests.{named, Towards}
+use Rattle.roundtrips.specs.Rows.{cornered}
+use Rattle.roundtrips.specs.Slopes.{slopeBy, fall-is, slope-by, slope-opp}
+use Rattle.roundtrips.specs.Maps.{weightAt-is}
+use Rattle.tables.specs.Tables.{view}
+use Rattle.stage.specs.Stage.{Peeled, across, tag, whole, opp-in, across-is, tag-is, outer-label}
 
--- a side of the outer triangle, from the two triangles beside it
-unfoldable pub beside : ℕ → ℕ → Bool
-beside d o = eqb (tri d) 0 || eqb (tri o) 0
+-- the label across the side of dart d, at its tip
+unfoldable pub beyond : (ℕ → ℕ) → ℕ → ℕ
+beyond w d = tag w (across w d)
 
--- the side of dart d has colour c, of which v is the outer vertex, and points to the tip of d
-unfoldable pub towards : List ℕ → (ℕ → ℕ) → ℕ → ℕ → ℕ → Bool
-unfolding beside
-towards ts w c v d = cond (beside d (across w d)) (eqb (tip ts d) v) (eqb (tag w (next d)) c && eqb (tag w (across w d)) c)
-
--- the corner of triangle t with label 2
+-- which corner of triangle t has label 2
 unfoldable pub top : (ℕ → ℕ) → ℕ → ℕ
-top w t = seek (λ d. eqb (tag w d) 2) (3 * t) (corners t)
+top w t = cond (eqb (tag w (3 * t)) 2) 0 (cond (eqb (tag w (3 * t + 1)) 2) 1 2)
 
-module _ (ts : List ℕ) (bs : List ℤ) where
-  unfoldable pub falls : ℕ → ℕ → ℤ
-  falls c d = coordinate bs c (org ts d) -ℤ coordinate bs c (tip ts d)
+-- by how much coordinate c is greater at vertex i than at vertex j
+unfoldable pub falls : List ℤ → ℕ → ℕ → ℕ → ℤ
+falls bs c i j = coordinate bs c i -ℤ coordinate bs c j
 
-  module _ (w : ℕ → ℕ) where
-    unfoldable pub slopes : ℕ → ℤ
-    slopes d =
-        cond (towards ts w 0 (org ts 0) d) (falls 1 d)
-        (cond (towards ts w 0 (org ts 0) (across w d)) (falls 1 (across w d))
-        (cond (towards ts w 1 (org ts 2) d) (falls 0 d)
-        (cond (towards ts w 1 (org ts 2) (across w d)) (falls 0 (across w d))
-        (pos 0))))
+module _ (bs : List ℤ) (w : ℕ → ℕ) where
+  -- s of the side opposite corner 2, whose dart d runs from i, the vertex of corner 0, to j: it has colour 1 towards j, or else colour 0 towards i
+  unfoldable pub above : ℕ → ℕ → ℕ → ℤ
+  above d i j = cond (eqb (beyond w d) 1) (falls bs 0 i j) (falls bs 1 j i)
+
+  -- s of another side, of dart d: it has colour 2 if the label across is l, or else b_c falls along it from i, the vertex of corner 2, to j
+  unfoldable pub below : ℕ → ℕ → ℕ → ℕ → ℕ → ℤ
+  below d l c i j = cond (eqb (beyond w d) l) (pos 0) (falls bs c i j)
+
+  module _ (ts : List ℕ) where
+    -- the weight of the triangle whose corners 2, 0 and 1 are those of the darts g, p and q
+    unfoldable pub weighed : ℕ → ℕ → ℕ → ℤ
+    weighed g p q = above p (org ts p) (org ts q) -ℤ below g 1 1 (org ts g) (org ts p) -ℤ below q 2 0 (org ts g) (org ts q)
 
     unfoldable pub weighs : ℕ → ℤ
-    weighs t = slopes (next (top w t)) -ℤ slopes (top w t) -ℤ slopes (prev (top w t))
+    weighs t = weighed (3 * t + top w t) (3 * t + next (top w t)) (3 * t + prev (top w t))
 
     unfoldable pub weights : List ℤ
     weights = map weighs (inner ts)
 
 -- ---- the tests in the order of the code
 
-pub beside-this : (d o : ℕ) → d / 3 ≡ 0 → true ≡ beside d o
-unfolding beside tri
-beside-this d o e = rw (eq-eqb (d / 3) 0 e)
-
-pub beside-that : (d o : ℕ) → (d / 3 ≡ 0 → ⊥) → eqb (o / 3) 0 ≡ beside d o
-unfolding beside tri
-beside-that d o e = rw (ne-eqb (d / 3) 0 e)
-
-module _ (ts : List ℕ) (w : ℕ → ℕ) (c v d o : ℕ) (at : o ≡ across w d) where
-  pub towards-rim : (e : ℕ) → true ≡ beside d o → e ≡ tip ts d → eqb e v ≡ towards ts w c v d
-  unfolding towards
-  towards-rim e h q = rw (← at, ← h, q)
-
-  pub towards-in : (a b : ℕ) → false ≡ beside d o → a ≡ tag w (next d) → a ≡ c → b ≡ tag w o → eqb b c ≡ towards ts w c v d
-  unfolding towards
-  towards-in a b h p q r = rw (← at, ← h, ← p, eq-eqb a c q, r)
-
-  pub towards-out : (a : ℕ) → false ≡ beside d o → a ≡ tag w (next d) → (a ≡ c → ⊥) → false ≡ towards ts w c v d
-  unfolding towards
-  towards-out a h p q = rw (← at, ← h, ← p, ne-eqb a c q)
-
--- the outer vertices and the opposite as the code finds them
-pub record Found (ts : List ℕ) (w : ℕ → ℕ) (d o v0 v1 : ℕ) : Type 0 where
-  pub at : o ≡ across w d
-  pub is0 : v0 ≡ org ts 0
-  pub is1 : v1 ≡ org ts 2
-
-module _ (ts : List ℕ) (bs : List ℤ) (w : ℕ → ℕ) (d o v0 v1 : ℕ) (f : Found ts w d o v0 v1) where
-  slopes-tests : slopes ts bs w d ≡
-      cond (towards ts w 0 v0 d) (falls ts bs 1 d)
-      (cond (towards ts w 0 v0 o) (falls ts bs 1 o)
-      (cond (towards ts w 1 v1 d) (falls ts bs 0 d)
-      (cond (towards ts w 1 v1 o) (falls ts bs 0 o)
-      (pos 0))))
-  unfolding slopes
-  slopes-tests = rw (← f .at, ← f .is0, ← f .is1)
-
-  pub slopes-1 : true ≡ towards ts w 0 v0 d → falls ts bs 1 d ≡ slopes ts bs w d
-  slopes-1 a = sym (slopes-tests ∙ rw (← a))
-
-  pub slopes-2 : false ≡ towards ts w 0 v0 d → true ≡ towards ts w 0 v0 o → falls ts bs 1 o ≡ slopes ts bs w d
-  slopes-2 a b = sym (slopes-tests ∙ rw (← a, ← b))
-
-  pub slopes-3 : false ≡ towards ts w 0 v0 d → false ≡ towards ts w 0 v0 o → true ≡ towards ts w 1 v1 d → falls ts bs 0 d ≡ slopes ts bs w d
-  slopes-3 a b c = sym (slopes-tests ∙ rw (← a, ← b, ← c))
-
-  pub slopes-4 : false ≡ towards ts w 0 v0 d → false ≡ towards ts w 0 v0 o → false ≡ towards ts w 1 v1 d → true ≡ towards ts w 1 v1 o →
-      falls ts bs 0 o ≡ slopes ts bs w d
-  slopes-4 a b c e = sym (slopes-tests ∙ rw (← a, ← b, ← c, ← e))
-
-  pub slopes-5 : false ≡ towards ts w 0 v0 d → false ≡ towards ts w 0 v0 o → false ≡ towards ts w 1 v1 d → false ≡ towards ts w 1 v1 o →
-      pos 0 ≡ slopes ts bs w d
-  slopes-5 a b c e = sym (slopes-tests ∙ rw (← a, ← b, ← c, ← e))
-
 module _ (w : ℕ → ℕ) (t : ℕ) where
-  top-tests : top w t ≡ cond (eqb (tag w (3 * t)) 2) (3 * t) (cond (eqb (tag w (3 * t + 1)) 2) (3 * t + 1) (cond (eqb (tag w (3 * t + 2)) 2) (3 * t + 2) (3 * t)))
-  unfolding top corners run seek
-  top-tests = rw (add-one (3 * t), add-two (3 * t))
+  pub top-0 : tag w (3 * t) ≡ 2 → 0 ≡ top w t
+  unfolding top
+  top-0 a = rw (eq-eqb (tag w (3 * t)) 2 a)
 
-  pub top-0 : tag w (3 * t) ≡ 2 → 3 * t ≡ top w t
-  top-0 a = sym (top-tests ∙ rw (eq-eqb (tag w (3 * t)) 2 a))
+  pub top-1 : tag w (3 * t) ≢ 2 → tag w (3 * t + 1) ≡ 2 → 1 ≡ top w t
+  unfolding top
+  top-1 a b = rw (ne-eqb (tag w (3 * t)) 2 a, eq-eqb (tag w (3 * t + 1)) 2 b)
 
-  pub top-1 : (tag w (3 * t) ≡ 2 → ⊥) → tag w (3 * t + 1) ≡ 2 → 3 * t + 1 ≡ top w t
-  top-1 a b = sym (top-tests ∙ rw (ne-eqb (tag w (3 * t)) 2 a, eq-eqb (tag w (3 * t + 1)) 2 b))
+  pub top-2 : tag w (3 * t) ≢ 2 → tag w (3 * t + 1) ≢ 2 → 2 ≡ top w t
+  unfolding top
+  top-2 a b = rw (ne-eqb (tag w (3 * t)) 2 a, ne-eqb (tag w (3 * t + 1)) 2 b)
 
-  pub top-2 : (tag w (3 * t) ≡ 2 → ⊥) → (tag w (3 * t + 1) ≡ 2 → ⊥) → tag w (3 * t + 2) ≡ 2 → 3 * t + 2 ≡ top w t
-  top-2 a b c = sym (top-tests ∙ rw (ne-eqb (tag w (3 * t)) 2 a, ne-eqb (tag w (3 * t + 1)) 2 b, eq-eqb (tag w (3 * t + 2)) 2 c))
+module _ (bs : List ℤ) (w : ℕ → ℕ) (d : ℕ) where
+  pub above-1 : (i j : ℕ) → beyond w d ≡ 1 → falls bs 0 i j ≡ above bs w d i j
+  unfolding above
+  above-1 i j e = rw (eq-eqb (beyond w d) 1 e)
 
-  pub top-3 : (tag w (3 * t) ≡ 2 → ⊥) → (tag w (3 * t + 1) ≡ 2 → ⊥) → (tag w (3 * t + 2) ≡ 2 → ⊥) → 3 * t ≡ top w t
-  top-3 a b c = sym (top-tests ∙ rw (ne-eqb (tag w (3 * t)) 2 a, ne-eqb (tag w (3 * t + 1)) 2 b, ne-eqb (tag w (3 * t + 2)) 2 c))
+  pub above-0 : (i j : ℕ) → beyond w d ≢ 1 → falls bs 1 j i ≡ above bs w d i j
+  unfolding above
+  above-0 i j e = rw (ne-eqb (beyond w d) 1 e)
+
+  pub below-2 : (l c i j : ℕ) → beyond w d ≡ l → pos 0 ≡ below bs w d l c i j
+  unfolding below
+  below-2 l c i j e = rw (eq-eqb (beyond w d) l e)
+
+  pub below-c : (l c i j : ℕ) → beyond w d ≢ l → falls bs c i j ≡ below bs w d l c i j
+  unfolding below
+  below-c l c i j e = rw (ne-eqb (beyond w d) l e)
 
 -- the list of weights, entry by entry
-module _ (ts : List ℕ) (bs : List ℤ) (w : ℕ → ℕ) where
-  pub length-weights : length (weights ts bs w) ≡ length ts / 3 - 1
+module _ (bs : List ℤ) (w : ℕ → ℕ) (ts : List ℕ) where
+  pub length-weights : length (weights bs w ts) ≡ length ts / 3 - 1
   unfolding weights inner
-  length-weights = length-table (weighs ts bs w) 1 (length ts / 3 - 1)
+  length-weights = length-table (weighs bs w ts) 1 (length ts / 3 - 1)
 
-  pub weights-at : (i : ℕ) → i + 1 < length ts / 3 → getD (weights ts bs w) i (pos 0) ≡ weighs ts bs w (i + 1)
+  pub weights-at : (i : ℕ) → i + 1 < length ts / 3 → getD (weights bs w ts) i (pos 0) ≡ weighs bs w ts (i + 1)
   unfolding weights inner
-  weights-at i h = let e : 1 + i ≡ i + 1 = omega arith in getD-map-run (weighs ts bs w) 1 (length ts / 3 - 1) i (pos 0) (omega arith) ∙ ap (weighs ts bs w) e
+  weights-at i h = let e : 1 + i ≡ i + 1 = omega arith in getD-map-run (weighs bs w ts) 1 (length ts / 3 - 1) i (pos 0) (omega arith) ∙ ap (weighs bs w ts) e
 
--- one more weight written
-pub written-more : (f : ℕ → ℤ) (k : ℕ) (xs ys : List ℤ) (i : ℕ) (x : ℤ) → i < k → Filled f 1 k (pos 0) xs i → x ≡ f (i + 1) → ys ≡ set xs i x →
-    Filled f 1 k (pos 0) ys (i + 1)
-written-more f k xs ys i x h q e r =
-    let p : i + 1 ≡ 1 + i = omega arith in
-    rw (r, e, ap f p) (filled-more f 1 k (pos 0) xs i h q)
+pub length-backward : (ts ls : List ℕ) (bs : List ℤ) → length (backward ts ls bs) ≡ length ts / 3 - 1
+unfolding backward inner
+length-backward ts ls bs = length-table (weightAt ts ls bs) 1 (length ts / 3 - 1)
 
--- ---- on a labelled mesh
+-- ---- on a peeled mesh
 
-module _ {n : ℕ} {ts ls : List ℕ} {s : List ℤ} (l : Labelled n ts ls s) where
+module _ {n : ℕ} {ts ls : List ℕ} {s : List ℤ} (P : Peeled n ts ls s) (bs : List ℤ) (K : row11 ts bs ≡ false) where
   abbrev w : ℕ → ℕ
   w = view s .op
 
-  next-in : (d : ℕ) → d < length ts → next d < length ts
-  unfolding next
-  next-in d h = omega (arith, whole l)
+  abbrev T : ℕ
+  T = length ts / 3
 
-  prev-in : (d : ℕ) → d < length ts → prev d < length ts
-  unfolding prev
-  prev-in d h = omega (arith, whole l)
+  beyond-is : (d : ℕ) → d < 3 * T → beyond w d ≡ label ls (opp ts d)
+  unfolding beyond
+  beyond-is d h =
+      let b : d < length ts = omega (arith, whole (P .labelled)) in
+      rw (across-is (P .labelled) d b) (tag-is (P .labelled) (opp ts d) (opp-in (P .labelled) d b))
 
-  towards-is : (c d : ℕ) → d < length ts → towards ts w c (outer ts c) d ≡ points ts ls c d
-  unfolding towards points rim beside
-  towards-is c d h = rw (across-is l d h, tag-is l (next d) (next-in d h), tag-is l (opp ts d) (opp-in l d h))
+  -- s by a colour of the side, towards either of its ends
+  forth : (c d : ℕ) → c < 3 → Towards ts ls c d → slopeBy ts ls bs c d ≡ slope ts ls bs d
+  forth c d h p = sym (slope-by ts ls (P .labelled .sphere) (P .realizer) bs (cornered ts bs K) c d h p)
 
-  slopes-is : (bs : List ℤ) (d : ℕ) → d < length ts → slopes ts bs w d ≡ slope ts ls bs d
-  unfolding slopes slope falls fall outer
-  slopes-is bs d h =
-      let o = opp-in l d h in
-      rw (across-is l d h, towards-is 0 d h, towards-is 0 (opp ts d) o, towards-is 1 d h, towards-is 1 (opp ts d) o)
+  back : (c d : ℕ) → c < 3 → d < 3 * T → Towards ts ls c (opp ts d) → slopeBy ts ls bs c (opp ts d) ≡ slope ts ls bs d
+  back c d h b p = forth c (opp ts d) h p ∙ slope-opp ts ls (P .labelled .sphere) (P .realizer) bs (cornered ts bs K) d b
 
-  top-is : (t : ℕ) → t < length ts / 3 → top w t ≡ corner ls t 2
-  unfolding top corner corners
-  top-is t h = seek-same (λ d. eqb (tag w d) 2) (λ d. eqb (label ls d) 2) (3 * t) (run (3 * t) 3)
-      (λ d m. ap (λ (x : ℕ). eqb x 2) (tag-is l d (omega (arith, run-in (3 * t) 3 m))))
+  falls-forth : (c d j : ℕ) → next d ≡ j → falls bs c (org ts d) (org ts j) ≡ fall ts ls bs c d
+  unfolding falls
+  falls-forth c d j e = rw (← e) (sym (fall-is ts ls bs c d))
 
-  top-in : (t : ℕ) → t < length ts / 3 → corner ls t 2 < length ts
-  unfolding corner corners
-  top-in t h = ⊎-elim (λ e. rw e (omega arith)) (λ m. omega (arith, run-in (3 * t) 3 m)) (seek-either (λ d. eqb (label ls d) 2) (3 * t) (run (3 * t) 3))
+  falls-back : (c d j : ℕ) → d < 3 * T → next d ≡ j → falls bs c (org ts j) (org ts d) ≡ fall ts ls bs c (opp ts d)
+  unfolding falls
+  falls-back c d j h e = rw (← e, ← P .labelled .sphere .turned d h, ← tip-opp (P .labelled .sphere) d h) (sym (fall-is ts ls bs c (opp ts d)))
 
-  weighs-is : (bs : List ℤ) (t : ℕ) → t < length ts / 3 → weighs ts bs w t ≡ weightAt ts ls bs t
-  unfolding weighs weightAt
-  weighs-is bs t h =
-      let g = top-in t h in
-      rw (top-is t h, slopes-is bs (next (corner ls t 2)) (next-in (corner ls t 2) g), slopes-is bs (corner ls t 2) g, slopes-is bs (prev (corner ls t 2)) (prev-in (corner ls t 2) g))
+  -- across a rim side
+  past : (d : ℕ) → d < 3 * T → 0 < tri d → Rim T (opp ts) d → beyond w d ≡ 3
+  past d h z r = elim (r .outer) [ inl e ↦ absurd (omega (arith, z, e)) | inr e ↦ beyond-is d h ∙ outer-label ls (opp ts d) (outer-tri (opp ts d) e) ]
+
+  past-back : (d : ℕ) → d < 3 * T → 0 < tri d → Rim T (opp ts) (opp ts d) → beyond w d ≡ 3
+  past-back d h z r = elim (r .outer) [
+    | inl e ↦ beyond-is d h ∙ outer-label ls (opp ts d) (outer-tri (opp ts d) e)
+    | inr e ↦ absurd (omega (arith, z, ap tri (P .labelled .sphere .twice d h), e))
+  ]
+
+  module _ {g : ℕ} (a : Apex T (label ls) g) where
+    abbrev p : ℕ
+    p = next g
+
+    abbrev q : ℕ
+    q = prev g
+
+    p-in : (p < 3 * T) × (0 < tri p)
+    p-in = (next-below T g (a .below), omega (arith, a .inner, tri-next g))
+
+    q-in : (q < 3 * T) × (0 < tri q)
+    q-in = (prev-below T g (a .below), omega (arith, a .inner, tri-prev g))
+
+    fan : Fanning T (org ts) (opp ts) (label ls) (outer ts) g
+    fan = fanning (P .labelled .sphere) (P .realizer) (named ts) (apex-passed (P .labelled .sphere) (P .realizer) (named ts) a)
+
+    -- the label before another, round a triangle across
+    turned : (d c : ℕ) → d < 3 * T → 0 < tri (opp ts d) → label ls (next (opp ts d)) ≡ c → (beyond w d < 3) × (c ≡ (beyond w d + 1) % 3)
+    turned d c h z e = let k = cycle (P .labelled .sphere) (P .realizer) (named ts) (opp ts d) (P .labelled .sphere .dart d h) z in
+        omega (arith, k, e, beyond-is d h)
+
+    -- the side from p to q
+    above-by-0 : Towards ts ls 0 (opp ts p) → beyond w p ≢ 1 → above bs w p (org ts p) (org ts q) ≡ slope ts ls bs p
+    unfolding slopeBy
+    above-by-0 c e = sym (above-0 bs w p (org ts p) (org ts q) e) ∙ falls-back 1 p q (p-in .0) (next-next g) ∙ back 0 p (omega arith) (p-in .0) c
+
+    above-by-1 : Towards ts ls 1 p → beyond w p ≡ 1 → above bs w p (org ts p) (org ts q) ≡ slope ts ls bs p
+    unfolding slopeBy
+    above-by-1 c e = sym (above-1 bs w p (org ts p) (org ts q) e) ∙ falls-forth 0 p q (next-next g) ∙ forth 1 p (omega arith) c
+
+    above-home : opp ts p ≡ 2 → above bs w p (org ts p) (org ts q) ≡ slope ts ls bs p
+    above-home e =
+        let c = from-v1-to-v0 (P .labelled .sphere) (P .realizer) (named ts) in
+        above-by-0 (subst (Towards ts ls 0) (sym e) c) (omega (arith, beyond-is p (p-in .0), outer-label ls (opp ts p) (omega (arith, e))))
+
+    above-1-is : Towards ts ls 1 p → above bs w p (org ts p) (org ts q) ≡ slope ts ls bs p
+    above-1-is (inside i x y) = above-by-1 (inside i x y) (beyond-is p (p-in .0) ∙ y)
+    above-1-is (along r x) = elim (r .outer) [
+      | inl e ↦ absurd (omega (arith, p-in .1, e))
+      | inr e ↦ above-home (exit (P .labelled .sphere) (P .realizer) (named ts) a e)
+    ]
+
+    above-0-is : Towards ts ls 0 (opp ts p) → above bs w p (org ts p) (org ts q) ≡ slope ts ls bs p
+    above-0-is (inside i x y) = above-by-0 (inside i x y) (omega (arith, turned p 0 (p-in .0) (i .this) x))
+    above-0-is (along r x) = above-by-0 (along r x) (omega (arith, past-back p (p-in .0) (p-in .1) r))
+
+    above-is : above bs w p (org ts p) (org ts q) ≡ slope ts ls bs p
+    unfolding edge
+    above-is = elim (fan .beyond) [
+      | inl e ↦ above-home e
+      | inr (inl c) ↦ above-0-is c
+      | inr (inr c) ↦ above-1-is (subst (Towards ts ls 1) (P .labelled .sphere .twice p (p-in .0)) c)
+    ]
+
+    -- the side from the corner with label 2 to p
+    left-by-0 : Towards ts ls 0 g → beyond w g ≢ 1 → below bs w g 1 1 (org ts g) (org ts p) ≡ slope ts ls bs g
+    unfolding slopeBy
+    left-by-0 c e = sym (below-c bs w g 1 1 (org ts g) (org ts p) e) ∙ falls-forth 1 g p refl ∙ forth 0 g (omega arith) c
+
+    left-0-is : Towards ts ls 0 g → below bs w g 1 1 (org ts g) (org ts p) ≡ slope ts ls bs g
+    left-0-is (inside i x y) = left-by-0 (inside i x y) (omega (arith, beyond-is g (a .below), y))
+    left-0-is (along r x) = left-by-0 (along r x) (omega (arith, past g (a .below) (a .inner) r))
+
+    left-2-is : Towards ts ls 2 (opp ts g) → below bs w g 1 1 (org ts g) (org ts p) ≡ slope ts ls bs g
+    unfolding slopeBy
+    left-2-is (inside i x y) =
+        sym (below-2 bs w g 1 1 (org ts g) (org ts p) (omega (arith, turned g 2 (a .below) (i .this) x))) ∙ back 2 g (omega arith) (a .below) (inside i x y)
+    left-2-is (along r x) = elim (r .outer) [
+      | inl e ↦
+          let z = rim-two (P .labelled .sphere) (P .realizer) (named ts) (opp ts g) (P .labelled .sphere .dart g (a .below)) e x in
+          let c = subst (Towards ts ls 0) (ap (opp ts) (sym z) ∙ P .labelled .sphere .twice g (a .below)) (from-v2-to-v0 (P .labelled .sphere) (P .realizer) (named ts)) in
+          left-0-is c
+      | inr e ↦ absurd (omega (arith, a .inner, ap tri (P .labelled .sphere .twice g (a .below)), e))
+    ]
+
+    left-is : below bs w g 1 1 (org ts g) (org ts p) ≡ slope ts ls bs g
+    left-is = elim (fan .left) [ inl c ↦ left-0-is c | inr c ↦ left-2-is c ]
+
+    -- the side from q to the corner with label 2
+    right-by-1 : Towards ts ls 1 (opp ts q) → beyond w q ≢ 2 → below bs w q 2 0 (org ts g) (org ts q) ≡ slope ts ls bs q
+    unfolding slopeBy
+    right-by-1 c e = sym (below-c bs w q 2 0 (org ts g) (org ts q) e) ∙ falls-back 0 q g (q-in .0) (next-prev g) ∙ back 1 q (omega arith) (q-in .0) c
+
+    right-1-is : Towards ts ls 1 (opp ts q) → below bs w q 2 0 (org ts g) (org ts q) ≡ slope ts ls bs q
+    right-1-is (inside i x y) = right-by-1 (inside i x y) (omega (arith, turned q 1 (q-in .0) (i .this) x))
+    right-1-is (along r x) = right-by-1 (along r x) (omega (arith, past-back q (q-in .0) (q-in .1) r))
+
+    right-2-is : Towards ts ls 2 q → below bs w q 2 0 (org ts g) (org ts q) ≡ slope ts ls bs q
+    unfolding slopeBy
+    right-2-is (inside i x y) =
+        sym (below-2 bs w q 2 0 (org ts g) (org ts q) (beyond-is q (q-in .0) ∙ y)) ∙ forth 2 q (omega arith) (inside i x y)
+    right-2-is (along r x) = elim (r .outer) [
+      | inl e ↦ absurd (omega (arith, q-in .1, e))
+      | inr e ↦
+          let z = rim-two′ (P .labelled .sphere) (P .realizer) (named ts) q (q-in .0) e x in
+          right-1-is (subst (Towards ts ls 1) (sym z) (from-v2-to-v1 (P .labelled .sphere) (P .realizer) (named ts)))
+    ]
+
+    right-is : below bs w q 2 0 (org ts g) (org ts q) ≡ slope ts ls bs q
+    right-is = elim (fan .right) [ inl c ↦ right-1-is c | inr c ↦ right-2-is c ]
+
+    weighed-is : weighed bs w ts g p q ≡ weightAt ts ls bs (tri g)
+    unfolding weighed
+    weighed-is = rw (above-is, left-is, right-is) (sym (weightAt-is ts ls (P .labelled .sphere) (whole (P .labelled)) (P .realizer) bs g a))
+
+  -- the corner with label 2 is the one that the code finds
+  tag-at : (d c : ℕ) → d < 3 * T → label ls d ≡ c → tag w d ≡ c
+  tag-at d c h e = tag-is (P .labelled) d (omega (arith, whole (P .labelled))) ∙ e
+
+  top-is : {g : ℕ} → Apex T (label ls) g → 3 * tri g + top w (tri g) ≡ g
+  unfolding tri next prev
+  top-is {g} a =
+      let l = apex-labels (P .labelled .sphere) (P .realizer) (named ts) a in
+      let two : (d : ℕ) → d ≡ g → tag w d ≡ 2 = λ d e. tag-at d 2 (omega (arith, a .below, e)) (ap (label ls) e ∙ a .two) in
+      let zero : (d : ℕ) → d ≡ next g → tag w d ≡ 0 = λ d e. tag-at d 0 (omega (arith, a .below, e)) (ap (label ls) e ∙ l .0) in
+      let one : (d : ℕ) → d ≡ prev g → tag w d ≡ 1 = λ d e. tag-at d 1 (omega (arith, a .below, e)) (ap (label ls) e ∙ l .1) in
+      elim (ℕ-discrete (g % 3) 0) [
+        | yes e ↦ omega (arith, e, top-0 w (g / 3) (two (3 * (g / 3)) (omega (arith, e))))
+        | no e ↦ elim (ℕ-discrete (g % 3) 1) [
+          | yes f ↦
+              omega (arith, f, top-1 w (g / 3) (omega (arith, one (3 * (g / 3)) (omega (arith, f)))) (two (3 * (g / 3) + 1) (omega (arith, f))))
+          | no f ↦
+              omega (arith, e, f, top-2 w (g / 3) (omega (arith, zero (3 * (g / 3)) (omega (arith, e, f)))) (omega (arith, one (3 * (g / 3) + 1) (omega (arith, e, f)))))
+        ]
+      ]
+
+  beside : (t k g : ℕ) → tri g ≡ t → 3 * t + k ≡ g → (3 * t + next k ≡ next g) × (3 * t + prev k ≡ prev g)
+  unfolding tri next prev
+  beside t k g e f = omega (arith, e, f)
+
+  weighs-is : (t : ℕ) → 0 < t → t < T → weighs bs w ts t ≡ weightAt ts ls bs t
+  unfolding weighs
+  weighs-is t z h =
+      let c = apex (P .labelled .sphere) (P .realizer) (named ts) t z h in
+      let e : 3 * t + top w t ≡ c .0 = rw (c .1) at (top-is (c .2)) in
+      let b = beside t (top w t) (c .0) (c .1) e in
+      rw (e, b .0, b .1) (weighed-is (c .2) ∙ ap (weightAt ts ls bs) (c .1))
 
   -- the weights are those of the definition
-  pub weights-is : (bs : List ℤ) → weights ts bs w ≡ backward ts ls bs
+  pub weights-is : weights bs w ts ≡ backward ts ls bs
   unfolding weights backward inner
-  weights-is bs =
-      map-run-same (weighs ts bs w) (weightAt ts ls bs) 1 (length ts / 3 - 1) (λ t a b. weighs-is bs t (omega arith))
+  weights-is = map-run-same (weighs bs w ts) (weightAt ts ls bs) 1 (length ts / 3 - 1) (λ t a b. weighs-is t (omega arith) (omega arith))

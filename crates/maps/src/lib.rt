@@ -138,7 +138,7 @@ fn run_backward(
     if weights_past_limit(triangles, s, coordinates) {
         return MapAnswer::Refused(9);
     }
-    write_weights(triangles, s, coordinates, weights);
+    write_weights(s, weights);
     MapAnswer::Written
 }
 

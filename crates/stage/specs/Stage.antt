@@ -1,7 +1,7 @@
 -- What scratch holds on an accepted mesh once its corners are labelled: the stage that the maps and repair start from. Assumes nothing.
 -- `ls` is any list of labels. Nothing is said of how they were found, nor of the words that the maps do not read.
-use Prim.Native.Nat.{ℕ, suc, _+_, _-_, _*_, _/_, _%_, _≤_, _<_}
-use mathlib.Core.Path.{_≡_}
+use Prim.Native.Nat.{ℕ, zero, suc, _+_, _-_, _*_, _/_, _%_, _≤_, _<_}
+use mathlib.Core.Path.{_≡_, refl}
 use mathlib.Core.List.{List}
 use native.Mathlib.Omega.{arith}
 use lib.ListN.{length}
@@ -31,6 +31,14 @@ pub record Peeled (n : ℕ) (ts ls : List ℕ) (s : List ℤ) : Type 0 where
   pub labelled : Labelled n ts ls s
   pub realizer : Realizer n (length ts / 3) (org ts) (opp ts) (label ls) (outer ts)
   pub stored : Stored n (length ts / 3) (org ts) (opp ts) (view s) 0 (realizer .trace)
+
+-- the outer triangle's corners have no label
+pub outer-label : (ls : List ℕ) (d : ℕ) → d < 3 → label ls d ≡ 3
+unfolding label
+outer-label ls zero h = refl
+outer-label ls (suc zero) h = refl
+outer-label ls (suc (suc zero)) h = refl
+outer-label ls (suc (suc (suc d))) h = absurd (omega arith)
 
 -- ---- a dart's word taken apart
 

@@ -1,8 +1,8 @@
--- `backmap::apex` meets its contract: the labels of the three corners, in listed order. Assumes nothing.
+-- `backmap::apex` meets its contract: the labels of two corners, in listed order. Assumes nothing.
 use mathlib.Core.Path.{_∙_, sym}
 use native.Mathlib.Omega.{arith}
 use Rattle.tables.specs.Tables.{view}
-use Rattle.backmap.specs.Slopes.{top-0, top-1, top-2, top-3}
+use Rattle.backmap.specs.Slopes.{top-0, top-1, top-2}
 use borrow.Author.Needs.{needs}
 use Rattle.backmap.proofs.apex.Statement.{statement}
 use Rattle.backmap.proofs.apex.Tie as tie
@@ -13,9 +13,6 @@ mul-label-of c = search needs
 label-of-requires : tie.Need-label-of-requires
 label-of-requires c κs = search needs
 
-mul-result : tie.Need-mul-result
-mul-result c = search needs
-
 mul-label-of-2 : tie.Need-mul-label-of-2
 mul-label-of-2 c = search needs
 
@@ -25,30 +22,6 @@ add-label-of c = search needs
 label-of-requires-2 : tie.Need-label-of-requires-2
 label-of-requires-2 c κs = search needs
 
-mul-result-2 : tie.Need-mul-result-2
-mul-result-2 c = search needs
-
-add-result : tie.Need-add-result
-add-result c = search needs
-
-mul-label-of-3 : tie.Need-mul-label-of-3
-mul-label-of-3 c = search needs
-
-add-label-of-2 : tie.Need-add-label-of-2
-add-label-of-2 c = search needs
-
-label-of-requires-3 : tie.Need-label-of-requires-3
-label-of-requires-3 c κs = search needs
-
-mul-result-3 : tie.Need-mul-result-3
-mul-result-3 c = search needs
-
-add-result-2 : tie.Need-add-result-2
-add-result-2 c = search needs
-
-mul-result-4 : tie.Need-mul-result-4
-mul-result-4 c = search needs
-
 returns : tie.Need-returns
 returns c = let a = c .before .before .args in (top-0 (view (a .scratch .now) .op) (a .t) (sym (c .before .label-of .ensures) ∙ c .if1 .taken), omega arith)
 
@@ -57,12 +30,8 @@ returns-2 c = let a = c .before .before .before .before .args in
     (top-1 (view (a .scratch .now) .op) (a .t) (λ e. c .before .before .if1 .left (c .before .before .before .label-of .ensures ∙ e)) (sym (c .before .label-of2 .ensures) ∙ c .if2 .taken), omega arith)
 
 returns-3 : tie.Need-returns-3
-returns-3 c = let a = c .before .before .before .before .before .before .args in
-    (top-2 (view (a .scratch .now) .op) (a .t) (λ e. c .before .before .before .before .if1 .left (c .before .before .before .before .before .label-of .ensures ∙ e)) (λ e. c .before .before .if2 .left (c .before .before .before .label-of2 .ensures ∙ e)) (sym (c .before .label-of3 .ensures) ∙ c .if3 .taken), omega arith)
-
-returns-4 : tie.Need-returns-4
-returns-4 c = let a = c .before .before .before .before .before .before .args in
-    (top-3 (view (a .scratch .now) .op) (a .t) (λ e. c .before .before .before .before .if1 .left (c .before .before .before .before .before .label-of .ensures ∙ e)) (λ e. c .before .before .if2 .left (c .before .before .before .label-of2 .ensures ∙ e)) (λ e. c .if3 .left (c .before .label-of3 .ensures ∙ e)), omega arith)
+returns-3 c = let a = c .before .before .before .before .args in
+    (top-2 (view (a .scratch .now) .op) (a .t) (λ e. c .before .before .if1 .left (c .before .before .before .label-of .ensures ∙ e)) (λ e. c .if2 .left (c .before .label-of2 .ensures ∙ e)), omega arith)
 
 pub apex-spec : {M : Type 1} → statement M
 apex-spec =
@@ -70,19 +39,9 @@ apex-spec =
     (tie.spec
     mul-label-of
     label-of-requires
-    mul-result
     mul-label-of-2
     add-label-of
     label-of-requires-2
-    mul-result-2
-    add-result
-    mul-label-of-3
-    add-label-of-2
-    label-of-requires-3
-    mul-result-3
-    add-result-2
-    mul-result-4
     returns
     returns-2
-    returns-3
-    returns-4)
+    returns-3)

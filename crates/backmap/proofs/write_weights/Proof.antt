@@ -1,57 +1,55 @@
--- `backmap::write_weights` meets its contract. The loop's invariant: the weights passed are those of the definition, and there are as many as before. Assumes nothing.
-use mathlib.Core.Path.{_∙_, sym, ap}
-use Prim.Native.Nat.{_-_, _/_, _<_, _≤_}
+-- `backmap::write_weights` meets its contract. The loop's invariant: the weights passed are those kept, and there are as many as before. Assumes nothing.
+use mathlib.Core.Path.{_≡_, refl, ap, _∙_}
+use Prim.Native.Nat.{_+_, _-_, _*_, _/_, _≤_}
 use native.Mathlib.Omega.{arith}
 use lib.ListN.{length, set}
-use lib.IntN.{pos}
-use Rattle.laws.specs.Tabulated.{Filled, filled-none, filled-all}
-use Rattle.tables.specs.Tables.{view}
 use Rattle.whole.specs.Whole.{held}
-use Rattle.definitions.specs.Mesh.{inner}
-use Rattle.backmap.specs.Slopes.{weighs, weights, weights-is, written-more}
-use Rattle.backmap.specs.Slopes.{weighs, weights, weights-is}
+use Rattle.backmap.specs.Keeping.{Copied, copied-none, copied-more, copied-all}
+use borrow.Author.Needs.{needs}
 use Rattle.backmap.proofs.write_weights.Statement.{statement}
 use Rattle.backmap.proofs.write_weights.Tie as tie
 
 abbrev Inv-loop : tie.InvT-loop
-Inv-loop triangles scratch coordinates weights₀ i₀ weights i = Filled (weighs triangles coordinates (view scratch .op)) 1 (length triangles / 3 - 1) (pos 0) weights i × (i ≤ length triangles / 3 - 1)
+Inv-loop scratch weights₀ first i₀ weights i = Copied scratch weights₀ weights i × (i ≤ length weights₀) × (first ≡ 6 * (length scratch / 10))
 
 abbrev μ-loop : tie.MeasureT-loop
-μ-loop triangles scratch coordinates weights₀ i₀ weights i = length weights - i
+μ-loop scratch weights₀ first i₀ weights i = length weights - i
+
+mul-first : tie.Need-mul-first Inv-loop μ-loop
+mul-first c = search needs
 
 loop-holds : tie.Need-loop-holds Inv-loop μ-loop
-loop-holds c = let a = c .before .args in (filled-none (weighs (a .triangles .now) (a .coordinates .now) (view (a .scratch .now) .op)) 1 (length (a .triangles .now) / 3 - 1) (pos 0) (a .weights .now) (c .before .pre .1), omega arith)
+loop-holds c = (copied-none (c .args .scratch .now) (c .args .weights .now), omega arith, refl)
 
-add-weight-of : tie.Need-add-weight-of Inv-loop μ-loop
-add-weight-of c = omega (arith, c .before .before .before .pre .0)
+add-at : tie.Need-add-at Inv-loop μ-loop
+add-at c = search needs
 
-weight-of-requires : tie.Need-weight-of-requires Inv-loop μ-loop
-weight-of-requires c κs = (omega (arith, c .before .before .before .pre .0, c .loop-test .taken, c .before .loop .inv .0 .long), c .before .before .before .pre .2)
+at-requires : tie.Need-at-requires Inv-loop μ-loop
+at-requires c κs = search needs
 
 put-requires : tie.Need-put-requires Inv-loop μ-loop
 put-requires c κs = c .before .before .loop-test .taken
 
 add-i : tie.Need-add-i Inv-loop μ-loop
-add-i c = omega (arith, c .before .before .before .before .before .before .before .pre .0, c .before .before .before .before .before .loop .inv .1)
+add-i c = omega (arith, c .before .before .before .before .before .before .pre, c .before .before .before .before .before .loop .inv .1)
 
 loop-less : tie.Need-loop-less Inv-loop μ-loop
 loop-less c = omega (arith, c .before .put .kept, c .before .before .before .before .loop-test .taken)
 
 loop-again : tie.Need-loop-again Inv-loop μ-loop
-loop-again c = let a = c .before .before .before .before .before .before .before .args in let k = length (a .triangles .now) / 3 - 1 in let i = c .before .before .before .before .before .loop .i in
-    let h : i < k = omega (arith, c .before .before .before .before .loop-test .taken, c .before .before .before .before .before .loop .inv .0 .long) in (
-      written-more (weighs (a .triangles .now) (a .coordinates .now) (view (a .scratch .now) .op)) k (c .before .before .before .before .before .loop .weights) (c .before .put .last .0) i (c .before .before .before .weight-of .result) h (c .before .before .before .before .before .loop .inv .0)
-          (c .before .before .before .weight-of .ensures) (c .before .put .ensures ∙ ap (set (c .before .before .before .before .before .loop .weights) i) (held (c .before .before .before .weight-of .result) (c .before .before .before .weight-of .ok))),
-      omega arith,
-    )
+loop-again c = let a = c .before .before .before .before .before .before .args in let s = a .scratch .now in let i = c .before .before .before .before .before .loop .i in let x = c .before .before .at in (
+  copied-more s (a .weights .now) (c .before .before .before .before .before .loop .weights) (c .before .put .last .0) i (6 * (length s / 10) + i) (x .result) (c .before .before .before .before .before .loop .inv .0) (c .before .before .before .before .loop-test .taken) refl (x .ensures)
+      (c .before .put .ensures ∙ ap (set (c .before .before .before .before .before .loop .weights) i) (held (x .result) (x .ok))),
+  omega (arith, c .before .before .before .before .loop-test .taken, c .before .before .before .before .before .loop .inv .0 .long),
+  refl,
+)
 
 same-length : tie.Need-same-length Inv-loop μ-loop
-same-length c = c .before .loop .inv .0 .long ∙ sym (c .before .before .before .pre .1)
+same-length c = c .before .loop .inv .0 .long
 
 returns : tie.Need-returns Inv-loop μ-loop
-unfolding weights inner
-returns c = let a = c .before .before .before .args in let ts = a .triangles .now in let bs = a .coordinates .now in let w = view (a .scratch .now) .op in
-    λ n ls l. filled-all (weighs ts bs w) 1 (length ts / 3 - 1) (pos 0) (c .before .loop .weights) (c .before .loop .i) (omega (arith, c .loop-test .left, c .before .loop .inv .0 .long)) (c .before .loop .inv .0) ∙ weights-is l bs
+returns c = let a = c .before .before .args in
+    λ ws K e. copied-all (a .scratch .now) (a .weights .now) (c .before .loop .weights) ws (c .before .loop .i) (c .before .loop .inv .0) (omega (arith, c .loop-test .left)) K e
 
 pub write-weights-spec : {M : Type 1} → statement M
 write-weights-spec =
@@ -59,9 +57,10 @@ write-weights-spec =
     (tie.spec
     Inv-loop
     μ-loop
+    mul-first
     loop-holds
-    add-weight-of
-    weight-of-requires
+    add-at
+    at-requires
     put-requires
     add-i
     loop-less
