@@ -15,7 +15,7 @@ use Rattle.definitions.specs.Words.{run, upto, keep}
 use Rattle.definitions.specs.Mesh.{next, prev, org, darts, leaving}
 use Rattle.laws.specs.Lists.{_∈_, keep-in, run-in}
 use Rattle.sphere.specs.Darts.{next-prev}
-use Rattle.tables.specs.Tables.{Tables, upd, upd-same, upd-at, upd-other, setOp, setHead, setCount, blank}
+use Rattle.tables.specs.Tables.{Tables, upd, upd-same, upd-at, upd-other, setOp, setHead, setCount, withOp, blank}
 
 -- k darts: d, and those that the links lead to
 unfoldable pub chain : (ℕ → ℕ) → ℕ → ℕ → List ℕ
@@ -101,11 +101,11 @@ module _ (ts : List ℕ) where
   abbrev pub Bucketed : Tables → Type 0
   Bucketed t = (v : ℕ) → chain (t .op) (t .count v) (t .head v) ≡ leaving ts v
 
-  pub fill-buckets : Bucketed (fill (length ts) blank)
-  unfolding leaving darts upto blank chain keep run
-  fill-buckets v =
+  pub fill-buckets : (op : ℕ → ℕ) → Bucketed (fill (length ts) (withOp op blank))
+  unfolding leaving darts upto withOp blank chain keep run
+  fill-buckets op v =
       let e : length ts - 0 ≡ length ts = omega arith in
-      fill-holds (length ts) blank (omega arith) (λ v. let e : length ts - length ts ≡ 0 = omega arith in rw e) v
+      fill-holds (length ts) (withOp op blank) (omega arith) (λ v. let e : length ts - length ts ≡ 0 = omega arith in rw e) v
       ∙ ap (λ (k : ℕ). keep (λ d. eqb (org ts d) v) (run 0 k)) e
 
   -- while the lists are filled, a count stays below the number of darts
@@ -120,9 +120,9 @@ module _ (ts : List ℕ) where
         | no e ↦ rw (upd-other (org ts d) v (t .count (org ts d) + 1) (t .count) e) (omega (arith, I v))
       ]
 
-  pub blank-counts : Counted (length ts) blank
-  unfolding blank
-  blank-counts v = omega arith
+  pub blank-counts : (op : ℕ → ℕ) → Counted (length ts) (withOp op blank)
+  unfolding withOp blank
+  blank-counts op v = omega arith
 
   -- and a head is a dart
   abbrev pub Headed : Tables → Type 0
@@ -141,9 +141,9 @@ module _ (ts : List ℕ) where
   fill-heads zero t h I = I
   fill-heads (suc k) t h I = fill-heads k (push k t) (omega arith) (push-heads k t h I)
 
-  pub blank-heads : Headed blank
-  unfolding blank
-  blank-heads v = omega arith
+  pub blank-heads : (op : ℕ → ℕ) → Headed (withOp op blank)
+  unfolding withOp blank
+  blank-heads op v = omega arith
 
   -- only these tables change, and all marks stay
   pub fill-mark : (k : ℕ) (t : Tables) → fill k t .mark ≡ t .mark

@@ -1,6 +1,6 @@
 -- Rows 5 and 6 by marks, and the opposites: once the darts that leave a vertex have left their marks, each dart that arrives there finds its opposite
 -- at the vertex that it comes from. It is stored in place of a link that is needed no more. Assumes nothing.
-use Prim.Native.Nat.{ℕ, zero, suc, _+_, _*_, _/_, _%_, _≤_, _<_}
+use Prim.Native.Nat.{ℕ, zero, suc, _+_, _*_, _%_, _≤_, _<_}
 use mathlib.Core.Path.{_≡_, refl, sym, ap, _∙_}
 use mathlib.Core.Logic.{_≢_, inl, inr, ⊎-elim}
 use mathlib.Core.Bool.{Bool, true, false, cond, not, _&&_}
@@ -9,7 +9,7 @@ use native.Mathlib.Omega.{arith}
 use native.Mathlib.Decide.{ℕ-discrete, decLt}
 use lib.Dec.{ltb}
 use lib.ListN.{length}
-use borrow.Author.Tests.{lt-ltb, le-ltb, ltb-true}
+use borrow.Author.Tests.{lt-ltb, ltb-true}
 use Rattle.definitions.specs.Words.{any}
 use Rattle.definitions.specs.Mesh.{next, prev, org, tip, opposite, opp, darts, leaving, row5, row6}
 use Rattle.laws.specs.Lists.{_∈_, tested, clash, untrue, and-both, true-any, false-any}

@@ -14,7 +14,7 @@ use Rattle.definitions.specs.Words.{any}
 use Rattle.definitions.specs.Mesh.{org, tip, same, darts, leaving, row5}
 use Rattle.laws.specs.Lists.{_∈_, tested, clash, true-any}
 use Rattle.laws.specs.Counting.{Distinct, distinct-head, distinct-tail}
-use Rattle.sphere.specs.Rows.{Once, in-darts, leaving-in, in-leaving, distinct-leaving, row5-means}
+use Rattle.sphere.specs.Rows.{in-darts, leaving-in, in-leaving, distinct-leaving, row5-means}
 use Rattle.tables.specs.Tables.{Tables, upd, upd-same, upd-at, upd-other}
 use Rattle.checkwork.specs.Buckets.{chain}
 

@@ -2,12 +2,12 @@
 use Prim.Native.Nat.{ℕ, _*_, _/_, _%_, _≤_, _<_, _^_}
 use mathlib.Core.Path.{_≡_, sym, ap, _∙_}
 use mathlib.Core.Bool.{Bool, true, false}
-use mathlib.Core.List.{List, map}
+use mathlib.Core.List.{List}
 use mathlib.Core.Option.{none, some}
 use native.Mathlib.Omega.{arith}
 use native.Mathlib.Decide.{decLt}
 use lib.ListN.{length, List·getD-eq-default}
-use lib.IntN.{ℤ, pos}
+use lib.IntN.{ℤ}
 use Rattle.definitions.specs.Mesh.{trianglesLength, org, opp, row3, row4, row5, row6, row7, row8}
 use Rattle.definitions.specs.Answers.{ask}
 use Rattle.definitions.specs.Refusals.{mostVertices, meshRows, Accepted as AcceptedMesh}
@@ -16,7 +16,7 @@ use Rattle.sphere.specs.Sides.{Sides, sides}
 use Rattle.sphere.specs.Sphere.{Sphere}
 use Rattle.sphere.specs.Accept.{range-row1, accepted-sphere}
 use Rattle.sphere.specs.Asking.{clean-ask, mesh-5, mesh-6, mesh-7, mesh-8}
-use Rattle.tables.specs.Tables.{Tables, view, blank, view-blank, withOp, withMark}
+use Rattle.tables.specs.Tables.{Tables, view, blank, withOp, withMark}
 use Rattle.checkwork.specs.Buckets.{fill, fill-buckets, fill-heads, fill-mark, Bucketed, Headed, blank-counts, blank-heads, Rooted, bucketed-rooted}
 use Rattle.checkwork.specs.Twice.{Before}
 use Rattle.checkwork.specs.Join.{Told, twice, lacking, paired, joinAll-told}
@@ -83,13 +83,12 @@ small n ts h e d =
 pub has-room : (n : ℕ) (ts : List ℕ) (words : ℕ) → Lent n ts words → row3 ts n ≡ false → Room ts words
 has-room n ts words L e = let w = whole n ts L in room n (length ts / 3) words ts (small n ts (L .least) e) (w .0) (w .1) (L .room)
 
-pub can-fill : (n : ℕ) (ts : List ℕ) (s s₁ : List ℤ) → Lent n ts (length s) → row3 ts n ≡ false → length s₁ ≡ length s → s₁ ≡ map (λ _. pos 0) s → Filling ts s₁
+pub can-fill : (n : ℕ) (ts : List ℕ) (s s₁ : List ℤ) → Lent n ts (length s) → row3 ts n ≡ false → length s₁ ≡ length s → view s₁ ≡ withOp (view s .op) blank → Filling ts s₁
 can-fill n ts s s₁ L e l b =
-    let v : view s₁ ≡ blank = ap view b ∙ view-blank s in
     record {
       space = rw l (has-room n ts (length s) L e);
-      count = rw v (blank-counts ts);
-      heads = rw v (blank-heads ts);
+      count = rw b (blank-counts ts (view s .op));
+      heads = rw b (blank-heads ts (view s .op));
       few = omega (arith, L .triangles, L .most);
     }
 
@@ -110,16 +109,17 @@ record Listed (ts : List ℕ) (t : Tables) : Type 0 where
   heads : Headed ts t
   marks : Before 0 (t .mark)
 
-module _ (n : ℕ) (ts : List ℕ) (words : ℕ) (L : Lent n ts words) (none3 : row3 ts n ≡ false) (s s₁ s₂ : List ℤ) (b : s₁ ≡ map (λ _. pos 0) s)
+module _ (n : ℕ) (ts : List ℕ) (words : ℕ) (L : Lent n ts words) (none3 : row3 ts n ≡ false) (s s₁ s₂ : List ℤ) (b : view s₁ ≡ withOp (view s .op) blank)
     (f : view s₂ ≡ fill ts (length ts) (view s₁)) where
   listed : Listed ts (view s₂)
-  unfolding blank
+  unfolding withOp blank
   listed =
-      let v : view s₂ ≡ fill ts (length ts) blank = f ∙ ap (λ (t : Tables). fill ts (length ts) t) (ap view b ∙ view-blank s) in
+      let op = view s .op in
+      let v : view s₂ ≡ fill ts (length ts) (withOp op blank) = f ∙ ap (λ (t : Tables). fill ts (length ts) t) b in
       rw v record {
-        buckets = fill-buckets ts;
-        heads = fill-heads ts (length ts) blank (omega arith) (blank-heads ts);
-        marks = λ x. rw (ap (λ (g : ℕ → ℕ). g x) (fill-mark ts (length ts) blank)) (omega arith);
+        buckets = fill-buckets ts op;
+        heads = fill-heads ts (length ts) (withOp op blank) (omega arith) (blank-heads ts op);
+        marks = λ x. rw (ap (λ (g : ℕ → ℕ). g x) (fill-mark ts (length ts) (withOp op blank))) (omega arith);
       }
 
   pub can-match : length s₂ ≡ words → Ready ts s₂ n

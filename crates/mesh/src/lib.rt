@@ -8,6 +8,7 @@ use sides::fill_lists;
 use sides::high_vertex;
 use sides::match_sides;
 use tables::clear;
+use tables::clear_tables;
 ghost use mathlib.Core.Path.{_≡_};
 ghost use lib.ListN.{length};
 ghost use Rattle.definitions.specs.Refusals.{checkCall};
@@ -33,7 +34,7 @@ fn pair_sides(n: usize, triangles: &[u16], s: &mut [i64]) -> MeshAnswer
     if doubled_vertex(triangles) {
         return MeshAnswer::Refused(4);
     }
-    clear(s);
+    clear_tables(s);
     fill_lists(triangles, s);
     let row = match_sides(n, triangles, s);
     if row == 5 {

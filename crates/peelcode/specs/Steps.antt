@@ -11,7 +11,7 @@ use borrow.Author.Tests.{lt-ltb, le-ltb, eq-eqb, ne-eqb}
 use Rattle.definitions.specs.Mesh.{next, prev, org, tip}
 use lib.IntN.{ℤ}
 use Rattle.tables.specs.Tables.{Tables, view, dartIn, vertexIn, markIn, setOp, setHead, setCount, setMark}
-use Rattle.peelwork.specs.Work.{Counted, Found, Holds, Tagging, Room, Wide, behind, turned, near, low, top, setNear, setLow, setTop, wakeBlock, wakeGroup, wake, put, more, less, meet, round, enter, word, tag, border, pass, fan, gone, leave, can, scan, stop, seat, probe, look, find, comb, survey, seek, turn, leaveAll, wipe, outerMarks, outerEdges, outerLabels, begin, stage}
+use Rattle.peelwork.specs.Work.{Counted, Found, Holds, Tagging, Room, Wide, behind, turned, near, low, top, root, setNear, setLow, setTop, setRoot, wakeBlock, wakeGroup, wakeRoot, wake, put, more, less, meet, round, enter, word, tag, border, pass, fan, gone, leave, can, scan, stop, seat, probe, look, find, comb, survey, seek, turn, leaveAll, wipe, outerMarks, outerEdges, outerLabels, begin, stage}
 use Rattle.peelwork.specs.Following.{all-suc}
 use Rattle.peelwork.specs.Searching.{scan-least, scan-most}
 
@@ -86,9 +86,13 @@ low-is t b r e = ap (λ (x : ℕ). x / 65536 % 32) e
 pub low-small : (r : ℕ) → r / 65536 % 32 < 32
 low-small r = omega arith
 
-pub top-is : (t : Tables) (g r : ℕ) → r ≡ t .mark (2 * g) → r / 2097152 ≡ top t g
+pub top-is : (t : Tables) (g r : ℕ) → r ≡ t .mark (2 * g) → r / 2097152 % 32 ≡ top t g
 unfolding top
-top-is t g r e = ap (λ (x : ℕ). x / 2097152) e
+top-is t g r e = ap (λ (x : ℕ). x / 2097152 % 32) e
+
+pub root-is : (t : Tables) (r : ℕ) → r ≡ t .mark 0 → r / 67108864 ≡ root t
+unfolding root
+root-is t r e = ap (λ (x : ℕ). x / 67108864) e
 
 pub setNear-is : (w c m : ℕ) (t t′ : Tables) → m ≡ t .mark (2 * w) → t′ ≡ setMark (2 * w) (c + 65536 * (m / 65536)) t → t′ ≡ setNear w c t
 unfolding setNear
@@ -98,9 +102,13 @@ pub setLow-is : (b x m : ℕ) (t t′ : Tables) → m ≡ t .mark (2 * b) → t�
 unfolding setLow
 setLow-is b x m t t′ e q = q ∙ ap (λ (y : ℕ). setMark (2 * b) (y % 65536 + 65536 * x + 2097152 * (y / 2097152)) t) e
 
-pub setTop-is : (g x m : ℕ) (t t′ : Tables) → m ≡ t .mark (2 * g) → t′ ≡ setMark (2 * g) (m % 2097152 + 2097152 * x) t → t′ ≡ setTop g x t
+pub setTop-is : (g x m : ℕ) (t t′ : Tables) → m ≡ t .mark (2 * g) → t′ ≡ setMark (2 * g) (m % 2097152 + 2097152 * x + 67108864 * (m / 67108864)) t → t′ ≡ setTop g x t
 unfolding setTop
-setTop-is g x m t t′ e q = q ∙ ap (λ (y : ℕ). setMark (2 * g) (y % 2097152 + 2097152 * x) t) e
+setTop-is g x m t t′ e q = q ∙ ap (λ (y : ℕ). setMark (2 * g) (y % 2097152 + 2097152 * x + 67108864 * (y / 67108864)) t) e
+
+pub setRoot-is : (x m : ℕ) (t t′ : Tables) → m ≡ t .mark 0 → t′ ≡ setMark 0 (m % 67108864 + 67108864 * x) t → t′ ≡ setRoot x t
+unfolding setRoot
+setRoot-is x m t t′ e q = q ∙ ap (λ (y : ℕ). setMark 0 (y % 67108864 + 67108864 * x) t) e
 
 pub block-is : (w l m : ℕ) (t t′ : Tables) → l ≡ low t (w / 16) → m ≡ min l (w % 16) → t′ ≡ setLow (w / 16) m t → t′ ≡ wakeBlock w t
 unfolding wakeBlock
@@ -110,9 +118,13 @@ pub group-is : (w l m : ℕ) (t t′ : Tables) → l ≡ top t (w / 256) → m �
 unfolding wakeGroup
 group-is w l m t t′ e f q = q ∙ ap (λ (x : ℕ). setTop (w / 256) x t) (f ∙ ap (λ (x : ℕ). min x (w / 16 % 16)) e)
 
-pub wake-is : (w : ℕ) (t t′ t″ : Tables) → t′ ≡ wakeBlock w t → t″ ≡ wakeGroup w t′ → t″ ≡ wake w t
+pub all-groups-is : (w l m : ℕ) (t t′ : Tables) → l ≡ root t → m ≡ min l (w / 256) → t′ ≡ setRoot m t → t′ ≡ wakeRoot w t
+unfolding wakeRoot
+all-groups-is w l m t t′ e f q = q ∙ ap (λ (x : ℕ). setRoot x t) (f ∙ ap (λ (x : ℕ). min x (w / 256)) e)
+
+pub wake-is : (w : ℕ) (t t′ t″ t‴ : Tables) → t′ ≡ wakeBlock w t → t″ ≡ wakeGroup w t′ → t‴ ≡ wakeRoot w t″ → t‴ ≡ wake w t
 unfolding wake
-wake-is w t t′ t″ e q = q ∙ ap (wakeGroup w) e
+wake-is w t t′ t″ t‴ e q r = r ∙ ap (wakeRoot w) (q ∙ ap (wakeGroup w) e)
 
 module _ (w c : ℕ) (t t′ : Tables) where
   pub put-on : (t″ : Tables) → t′ ≡ setNear w c t → c ≡ 3 → t″ ≡ wake w t′ → t″ ≡ put w c t
@@ -381,23 +393,24 @@ unfolding seek
 seek-none ts n groups g t all h i = let j : groups - g ≡ 0 = omega arith in sym (rw j at i)
 
 -- the search from group g on comes to the whole of it, s was the scratch at the start
-pub record Seeking (ts : List ℕ) (n groups : ℕ) (s s′ : List ℤ) (g : ℕ) : Type 0 where
+pub record Seeking (ts : List ℕ) (n groups from : ℕ) (s s′ : List ℤ) (g : ℕ) : Type 0 where
   pub long : length s′ ≡ length s
-  pub rest : seek ts n (groups - g) g (view s′) ≡ seek ts n groups 0 (view s)
+  pub rest : seek ts n (groups - g) g (view s′) ≡ seek ts n (groups - from) from (view s)
 
-pub seeking-none : (ts : List ℕ) (n groups : ℕ) (s : List ℤ) → Seeking ts n groups s s 0
-seeking-none ts n groups s = let j : groups - 0 ≡ groups = omega arith in record { long = refl; rest = rw j }
+pub seeking-none : (ts : List ℕ) (n groups from : ℕ) (s : List ℤ) → Seeking ts n groups from s s from
+seeking-none ts n groups from s = record { long = refl; rest = refl }
 
 -- ---- the vertices in turn
 
 module _ (ts : List ℕ) (n i v : ℕ) (t t′ : Tables) where
-  pub turn-leaves : (t″ : Tables) → seek ts n (n / 256 + 1) 0 t ≡ record { vertex = v; tables = t′ } → v < n → t″ ≡ leave ts i v t′ → t″ ≡ turn ts n i t
+  pub turn-leaves : (t″ t‴ : Tables) (from : ℕ) → from ≡ root t → seek ts n (n / 256 + 1 - from) from t ≡ record { vertex = v; tables = t′ } → v < n
+      → t″ ≡ setRoot (v / 256) t′ → t‴ ≡ leave ts i v t″ → t‴ ≡ turn ts n i t
   unfolding turn
-  turn-leaves t″ e h q = rw (e, lt-ltb v n h) q
+  turn-leaves t″ t‴ from d e h p q = rw (← d, e, lt-ltb v n h) (q ∙ ap (leave ts i v) p)
 
-  pub turn-stays : seek ts n (n / 256 + 1) 0 t ≡ record { vertex = v; tables = t′ } → n ≤ v → t′ ≡ turn ts n i t
+  pub turn-stays : (from : ℕ) → from ≡ root t → seek ts n (n / 256 + 1 - from) from t ≡ record { vertex = v; tables = t′ } → n ≤ v → t′ ≡ turn ts n i t
   unfolding turn
-  turn-stays e h = rw (e, le-ltb v n h)
+  turn-stays from d e h = rw (← d, e, le-ltb v n h)
 
 module _ (ts : List ℕ) (n i : ℕ) (t end : Tables) where
   pub all-more : (t′ : Tables) → i + 2 < n → t′ ≡ turn ts n i t → leaveAll ts n (n - 2 - i) i t ≡ end → leaveAll ts n (n - 2 - (i + 1)) (i + 1) t′ ≡ end

@@ -17,7 +17,7 @@ ghost use Prim.Native.Nat.{_+_, _-_, _/_, _≤_, _<_, _^_, min};
 ghost use lib.ListN.{length};
 ghost use Rattle.tables.specs.Tables.{view};
 ghost use Rattle.peelwork.specs.Work.{Holds, Tagging, Room, Wide};
-ghost use Rattle.peelwork.specs.Work.{behind, near, low, top, setNear, setLow, setTop, wakeBlock, wakeGroup, wake, put, more, less};
+ghost use Rattle.peelwork.specs.Work.{behind, near, low, top, root, setNear, setLow, setTop, setRoot, wakeBlock, wakeGroup, wakeRoot, wake, put, more, less};
 ghost use Rattle.peelwork.specs.Work.{meet, round, enter, word, tag, border, pass, fan, gone, leave};
 ghost use Rattle.peelwork.specs.Work.{can, scan, probe, look, find, seat, comb, survey, seek, turn, leaveAll};
 ghost use Rattle.peelwork.specs.Work.{wipe, outerMarks, outerEdges, outerLabels, begin, stage};
@@ -29,7 +29,7 @@ fn across(s: &[i64], d: usize) -> usize
     get_op(s, d) % 65536
 }
 
-// the counter of vertex w, the bound of block b, and that of group g
+// the counter of vertex w, the bound of block b, that of group g, and that of all groups
 fn near(s: &[i64], w: usize) -> usize
     requires { ⌜ w < 2 ^ 63 ⌝ }
     ensures { λ r. ⌜ (r ≡ near (view (now (s .entry))) w) × (r < 65536) ⌝ }
@@ -48,7 +48,13 @@ fn top(s: &[i64], g: usize) -> usize
     requires { ⌜ g < 2 ^ 63 ⌝ }
     ensures { λ r. ⌜ r ≡ top (view (now (s .entry))) g ⌝ }
 {
-    get_mark(s, 2 * g) / 2097152
+    get_mark(s, 2 * g) / 2097152 % 32
+}
+
+fn root(s: &[i64]) -> usize
+    ensures { λ r. ⌜ r ≡ root (view (now (s .entry))) ⌝ }
+{
+    get_mark(s, 0) / 67108864
 }
 
 fn set_near(s: &mut [i64], w: usize, c: usize)
@@ -72,7 +78,19 @@ fn set_top(s: &mut [i64], g: usize, x: usize)
     ensures { λ r. ⌜ view (now (s .exit)) ≡ setTop g x (view (now (s .entry))) ⌝ }
 {
     let m = get_mark(s, 2 * g);
-    set_mark(s, 2 * g, m % 2097152 + 2097152 * x);
+    set_mark(
+        s,
+        2 * g,
+        m % 2097152 + 2097152 * x + 67108864 * (m / 67108864),
+    );
+}
+
+fn set_root(s: &mut [i64], x: usize)
+    requires { ⌜ Holds (length (now s)) 0 × (x < 256) ⌝ }
+    ensures { λ r. ⌜ view (now (s .exit)) ≡ setRoot x (view (now (s .entry))) ⌝ }
+{
+    let m = get_mark(s, 0);
+    set_mark(s, 0, m % 67108864 + 67108864 * x);
 }
 
 fn smaller(a: usize, b: usize) -> usize
@@ -81,7 +99,7 @@ fn smaller(a: usize, b: usize) -> usize
     if a < b { a } else { b }
 }
 
-// the bounds of w's block and group let w be found
+// the bounds of w's block, of its group and of all groups let w be found
 fn wake_block(s: &mut [i64], w: usize)
     requires { ⌜ Holds (length (now s)) w ⌝ }
     ensures { λ r. ⌜ view (now (s .exit)) ≡ wakeBlock w (view (now (s .entry))) ⌝ }
@@ -98,12 +116,21 @@ fn wake_group(s: &mut [i64], w: usize)
     set_top(s, w / 256, smaller(x, w / 16 % 16));
 }
 
+fn wake_root(s: &mut [i64], w: usize)
+    requires { ⌜ Holds (length (now s)) w ⌝ }
+    ensures { λ r. ⌜ view (now (s .exit)) ≡ wakeRoot w (view (now (s .entry))) ⌝ }
+{
+    let x = root(s);
+    set_root(s, smaller(x, w / 256));
+}
+
 fn wake(s: &mut [i64], w: usize)
     requires { ⌜ Holds (length (now s)) w ⌝ }
     ensures { λ r. ⌜ view (now (s .exit)) ≡ wake w (view (now (s .entry))) ⌝ }
 {
     wake_block(s, w);
     wake_group(s, w);
+    wake_root(s, w);
 }
 
 // a counter, with which w may be able to leave
@@ -376,13 +403,13 @@ fn survey(triangles: &[u16], s: &mut [i64], n: usize, g: usize) -> usize
     }
 }
 
-// the smallest vertex that can leave, found by groups of blocks
-fn seek(triangles: &[u16], s: &mut [i64], n: usize) -> usize
+// the smallest vertex that can leave, found by groups of blocks from group `from` on
+fn seek(triangles: &[u16], s: &mut [i64], n: usize, from: usize) -> usize
     requires { ⌜ Wide n (length (now s)) × (0 < n) ⌝ }
-    ensures { λ r. ⌜ seek (now (triangles .entry)) n (n / 256 + 1) 0 (view (now (s .entry))) ≡ record { vertex = r; tables = view (now (s .exit)) } ⌝ }
+    ensures { λ r. ⌜ seek (now (triangles .entry)) n (n / 256 + 1 - from) from (view (now (s .entry))) ≡ record { vertex = r; tables = view (now (s .exit)) } ⌝ }
 {
     let groups = n / 256 + 1;
-    let mut g = 0;
+    let mut g = from;
     while g < groups {
         let v = survey(triangles, s, n, g);
         if v < n {
@@ -393,13 +420,15 @@ fn seek(triangles: &[u16], s: &mut [i64], n: usize) -> usize
     n
 }
 
-// it leaves, as the i-th
+// it is looked for from the bound of all groups on, which is moved to its group, and leaves, as the i-th
 fn turn(triangles: &[u16], s: &mut [i64], n: usize, i: usize)
     requires { ⌜ Room (now triangles) (length (now s)) × Wide n (length (now s)) × (i < n) ⌝ }
     ensures { λ r. ⌜ view (now (s .exit)) ≡ turn (now (triangles .entry)) n i (view (now (s .entry))) ⌝ }
 {
-    let v = seek(triangles, s, n);
+    let from = root(s);
+    let v = seek(triangles, s, n, from);
     if v < n {
+        set_root(s, v / 256);
         leave(triangles, s, i, v);
     }
 }

@@ -16,7 +16,7 @@ use Rattle.sphere.specs.Sphere.{Sphere}
 use Rattle.sphere.specs.Turns.{tip-opp}
 use Rattle.peeling.specs.Inside.{three, org-opp0, org-opp1, org-opp2, proper01, proper12, proper20}
 use Rattle.tables.specs.Tables.{Tables, upd, upd-same, upd-other, setOp, setHead, setCount, setMark}
-use Rattle.peelwork.specs.Work.{behind, near, low, top, word, border, wipe, outerMarks, outerEdges, outerLabels, begin}
+use Rattle.peelwork.specs.Work.{behind, near, low, top, root, word, border, wipe, outerMarks, outerEdges, outerLabels, begin}
 use Rattle.peelwork.specs.Counts.{tip-is, met, met-most, joins, met-add, joins-none, joins-both, joins-one}
 use Rattle.peelwork.specs.Marks.{mark-same, mark-other}
 use Rattle.peelwork.specs.Searching.{Bounded}
@@ -155,6 +155,10 @@ module _ (n : ℕ) (ts : List ℕ) (s : Sphere n (length ts / 3) (org ts) (opp t
     unfolding low top
     bounds₁ b h = omega (arith, small₁ b h)
 
+    root₁ : root t₁ ≡ 0
+    unfolding root
+    root₁ = omega (arith, small₁ 0 (omega (arith, s .least)))
+
     op₁ : (d : ℕ) → d < length ts → t₁ .op d ≡ opp ts d
     unfolding outerMarks setMark
     op₁ d h = wipe-op n 0 t d ∙ opposed d h
@@ -210,6 +214,10 @@ module _ (n : ℕ) (ts : List ℕ) (s : Sphere n (length ts / 3) (org ts) (opp t
     unfolding low top border setHead setCount
     bounds₂ b h = (ap (λ (u : Tables). low u b) edges-are ∙ bounds₁ b h .0, ap (λ (u : Tables). top u b) edges-are ∙ bounds₁ b h .1)
 
+    root₂ : root t₂ ≡ 0
+    unfolding root border setHead setCount
+    root₂ = ap root edges-are ∙ root₁
+
     abbrev t₃ : Tables
     t₃ = outerLabels t₂
 
@@ -257,5 +265,5 @@ module _ (n : ℕ) (ts : List ℕ) (s : Sphere n (length ts / 3) (org ts) (opp t
 
     -- whose bounds are all 0
     pub begun-bounded : Bounded ts n (begin ts n t)
-    unfolding low top begin outerLabels setOp
-    begun-bounded x h c = omega (arith, bounds₂ (x / 16) (omega arith) .0, bounds₂ (x / 256) (omega arith) .1)
+    unfolding low top root begin outerLabels setOp
+    begun-bounded x h c = omega (arith, bounds₂ (x / 16) (omega arith) .0, bounds₂ (x / 256) (omega arith) .1, root₂)

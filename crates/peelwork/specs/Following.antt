@@ -23,8 +23,8 @@ use Rattle.peeling.specs.Vertices.{state, remove-is}
 use Rattle.peeling.specs.Run.{run}
 use Rattle.stage.specs.Stage.{Stored}
 use Rattle.tables.specs.Tables.{Tables}
-use Rattle.peelwork.specs.Work.{Found, can, seek, leave, turn, leaveAll}
-use Rattle.peelwork.specs.Searching.{Bounded, bounded-leave, Sought, sought-all}
+use Rattle.peelwork.specs.Work.{Found, root, setRoot, can, seek, leave, turn, leaveAll}
+use Rattle.peelwork.specs.Searching.{Bounded, bounded-leave, Sought, sought-here, sought-all}
 use Rattle.peelwork.specs.Passing.{Coded}
 use Rattle.peelwork.specs.Standing.{Stood, stood-same}
 use Rattle.peelwork.specs.Stepping.{head-is, count-is, head-kept, count-kept, order-here, order-kept, stands}
@@ -98,15 +98,15 @@ module _ (n : ℕ) (ts : List ℕ) (s : Sphere n (length ts / 3) (org ts) (opp t
     lv = leaves s R A e e′ B v lo
 
     abbrev f : Found
-    f = seek ts n (n / 256 + 1) 0 t
+    f = seek ts n (n / 256 + 1 - root t) (root t) t
 
     abbrev t₁ : Tables
-    t₁ = f .tables
+    t₁ = setRoot (o e / 256) (f .tables)
 
     abbrev t₂ : Tables
     t₂ = leave ts i (o e) t₁
 
-    sought : Sought ts n t (o e) f
+    sought : Sought ts n t (o e) (record { vertex = o e; tables = t₁ })
     sought = sought-all ts n (o e) below t bounded able first
 
     st₁ : Stood n ts R D P t₁
@@ -115,7 +115,7 @@ module _ (n : ℕ) (ts : List ℕ) (s : Sphere n (length ts / 3) (org ts) (opp t
     -- the work's choice is the definition's
     turned : turn ts n i t ≡ t₂
     unfolding turn
-    turned = rw (sought .here, lt-ltb (o e) n below)
+    turned = rw (sought-here ts n (o e) below t bounded able first, lt-ltb (o e) n below)
 
     stepped : step ts (state ts R D P) ≡ state ts (o e ∷ R) E (P ++ hs)
     stepped = step-is ts (state ts R D P) (o e) ch ∙ remove-is n ts s len R P A e e′ B v lo
@@ -185,4 +185,4 @@ module _ (n : ℕ) (ts : List ℕ) (s : Sphere n (length ts / 3) (org ts) (opp t
           let ch = rw q at h in
           let s₂ = rw q at s₁ in
           rw q (one-step k i R P A e e′ F v₁ lo ch t s₂ able below first B d b m c
-          (more (D′ s R A e e′ F v₁) (P ++ gs s R A e e′ F v₁) (leave ts i (o e) (seek ts n (n / 256 + 1) 0 t .tables))))
+          (more (D′ s R A e e′ F v₁) (P ++ gs s R A e e′ F v₁) (leave ts i (o e) (setRoot (o e / 256) (seek ts n (n / 256 + 1 - root t) (root t) t .tables)))))

@@ -10,7 +10,7 @@ use lib.ListN.{length}
 use Rattle.definitions.specs.Mesh.{opp}
 use Rattle.laws.specs.Lists.{tested}
 use Rattle.tables.specs.Tables.{Tables, upd-same, upd-other, setMark}
-use Rattle.peelwork.specs.Work.{behind, near, low, top, setNear, setLow, setTop, wakeBlock, wakeGroup, wake, put}
+use Rattle.peelwork.specs.Work.{behind, near, low, top, root, setNear, setLow, setTop, setRoot, wakeBlock, wakeGroup, wakeRoot, wake, put}
 
 -- the even marks may differ, and nothing else does
 pub record Beside (t t′ : Tables) : Type 0 where
@@ -95,7 +95,11 @@ module _ (w c : ℕ) (t : Tables) where
 
   pub setNear-top : c < 65536 → (g : ℕ) → top (setNear w c t) g ≡ top t g
   unfolding top setNear
-  setNear-top h = part-kept (λ m. m / 2097152) w nearWord t (omega arith)
+  setNear-top h = part-kept (λ m. m / 2097152 % 32) w nearWord t (omega arith)
+
+  pub setNear-root : c < 65536 → root (setNear w c t) ≡ root t
+  unfolding root setNear
+  setNear-root h = part-kept (λ m. m / 67108864) w nearWord t (omega arith) 0
 
 -- ---- the bound of a block
 
@@ -121,25 +125,29 @@ module _ (b x : ℕ) (t : Tables) where
 
   pub setLow-top : x < 32 → (g : ℕ) → top (setLow b x t) g ≡ top t g
   unfolding top setLow
-  setLow-top h = part-kept (λ m. m / 2097152) b lowWord t (omega arith)
+  setLow-top h = part-kept (λ m. m / 2097152 % 32) b lowWord t (omega arith)
+
+  pub setLow-root : x < 32 → root (setLow b x t) ≡ root t
+  unfolding root setLow
+  setLow-root h = part-kept (λ m. m / 67108864) b lowWord t (omega arith) 0
 
 -- ---- the bound of a group
 
 module _ (g x : ℕ) (t : Tables) where
   abbrev topWord : ℕ
-  topWord = t .mark (2 * g) % 2097152 + 2097152 * x
+  topWord = t .mark (2 * g) % 2097152 + 2097152 * x + 67108864 * (t .mark (2 * g) / 67108864)
 
   pub setTop-beside : Beside t (setTop g x t)
   unfolding setTop
   setTop-beside = mark-beside g topWord t
 
-  pub top-same : top (setTop g x t) g ≡ x
+  pub top-same : x < 32 → top (setTop g x t) g ≡ x
   unfolding top setTop
-  top-same = omega (arith, mark-same (2 * g) topWord t)
+  top-same h = omega (arith, mark-same (2 * g) topWord t)
 
   pub top-other : (a : ℕ) → a ≢ g → top (setTop g x t) a ≡ top t a
   unfolding top setTop
-  top-other = part-other (λ m. m / 2097152) g topWord t
+  top-other = part-other (λ m. m / 2097152 % 32) g topWord t
 
   pub setTop-near : (w : ℕ) → near (setTop g x t) w ≡ near t w
   unfolding near setTop
@@ -148,6 +156,36 @@ module _ (g x : ℕ) (t : Tables) where
   pub setTop-low : (b : ℕ) → low (setTop g x t) b ≡ low t b
   unfolding low setTop
   setTop-low = part-kept (λ m. m / 65536 % 32) g topWord t (omega arith)
+
+  pub setTop-root : x < 32 → root (setTop g x t) ≡ root t
+  unfolding root setTop
+  setTop-root h = part-kept (λ m. m / 67108864) g topWord t (omega arith) 0
+
+-- ---- the bound of all groups
+
+module _ (x : ℕ) (t : Tables) where
+  abbrev rootWord : ℕ
+  rootWord = t .mark (2 * 0) % 67108864 + 67108864 * x
+
+  pub setRoot-beside : Beside t (setRoot x t)
+  unfolding setRoot
+  setRoot-beside = mark-beside 0 rootWord t
+
+  pub root-same : root (setRoot x t) ≡ x
+  unfolding root setRoot
+  root-same = omega (arith, mark-same (2 * 0) rootWord t)
+
+  pub setRoot-near : (w : ℕ) → near (setRoot x t) w ≡ near t w
+  unfolding near setRoot
+  setRoot-near = part-kept (λ m. m % 65536) 0 rootWord t (omega arith)
+
+  pub setRoot-low : (b : ℕ) → low (setRoot x t) b ≡ low t b
+  unfolding low setRoot
+  setRoot-low = part-kept (λ m. m / 65536 % 32) 0 rootWord t (omega arith)
+
+  pub setRoot-top : (g : ℕ) → top (setRoot x t) g ≡ top t g
+  unfolding top setRoot
+  setRoot-top = part-kept (λ m. m / 2097152 % 32) 0 rootWord t (omega arith)
 
 -- ---- a vertex that may be able to leave
 
@@ -158,21 +196,38 @@ module _ (w : ℕ) (t : Tables) where
   abbrev t₁ : Tables
   t₁ = wakeBlock w t
 
+  abbrev l : ℕ
+  l = min (top t₁ (w / 256)) (w / 16 % 16)
+
+  abbrev t₂ : Tables
+  t₂ = wakeGroup w t₁
+
+  abbrev r : ℕ
+  r = min (root t₂) (w / 256)
+
   pub wake-beside : Beside t (wake w t)
-  unfolding wake wakeBlock wakeGroup
-  wake-beside = beside-then (setLow-beside (w / 16) m t) (setTop-beside (w / 256) (min (top t₁ (w / 256)) (w / 16 % 16)) t₁)
+  unfolding wake wakeBlock wakeGroup wakeRoot
+  wake-beside = beside-then (setLow-beside (w / 16) m t) (beside-then (setTop-beside (w / 256) l t₁) (setRoot-beside r t₂))
 
   pub wake-near : (x : ℕ) → near (wake w t) x ≡ near t x
-  unfolding wake wakeBlock wakeGroup
-  wake-near x = setTop-near (w / 256) (min (top t₁ (w / 256)) (w / 16 % 16)) t₁ x ∙ setLow-near (w / 16) m t x
+  unfolding wake wakeBlock wakeGroup wakeRoot
+  wake-near x = setRoot-near r t₂ x ∙ setTop-near (w / 256) l t₁ x ∙ setLow-near (w / 16) m t x
 
   low-woken : (b : ℕ) → low (wake w t) b ≡ low (wakeBlock w t) b
-  unfolding wake wakeGroup
-  low-woken = setTop-low (w / 256) (min (top t₁ (w / 256)) (w / 16 % 16)) t₁
+  unfolding wake wakeGroup wakeRoot
+  low-woken b = setRoot-low r t₂ b ∙ setTop-low (w / 256) l t₁ b
+
+  top-woken : (g : ℕ) → top (wake w t) g ≡ top t₂ g
+  unfolding wake wakeRoot
+  top-woken g = setRoot-top r t₂ g
 
   top-block : (g : ℕ) → top (wakeBlock w t) g ≡ top t g
   unfolding wakeBlock
   top-block = setLow-top (w / 16) m t (omega arith)
+
+  root-group : root t₂ ≡ root t
+  unfolding wakeBlock wakeGroup
+  root-group = setTop-root (w / 256) l t₁ (omega arith) ∙ setLow-root (w / 16) m t (omega arith)
 
   -- its bounds are not past it, and no bound is higher than before
   pub low-here : low (wake w t) (w / 16) ≤ w % 16
@@ -188,16 +243,24 @@ module _ (w : ℕ) (t : Tables) where
       ]
 
   pub top-here : top (wake w t) (w / 256) ≤ w / 16 % 16
-  unfolding wake wakeGroup
-  top-here = omega (arith, top-same (w / 256) (min (top t₁ (w / 256)) (w / 16 % 16)) t₁)
+  unfolding wakeGroup
+  top-here = omega (arith, top-woken (w / 256), top-same (w / 256) l t₁ (omega arith))
 
   pub top-less : (g : ℕ) → top (wake w t) g ≤ top t g
-  unfolding wake wakeGroup
+  unfolding wakeGroup
   top-less g =
       elim (ℕ-discrete g (w / 256)) [
-        | yes q ↦ rw q (omega (arith, top-same (w / 256) (min (top t₁ (w / 256)) (w / 16 % 16)) t₁, top-block (w / 256)))
-        | no q ↦ omega (arith, top-other (w / 256) (min (top t₁ (w / 256)) (w / 16 % 16)) t₁ g q, top-block g)
+        | yes q ↦ rw q (omega (arith, top-woken (w / 256), top-same (w / 256) l t₁ (omega arith), top-block (w / 256)))
+        | no q ↦ omega (arith, top-woken g, top-other (w / 256) l t₁ g q, top-block g)
       ]
+
+  pub root-here : root (wake w t) ≤ w / 256
+  unfolding wake wakeRoot
+  root-here = omega (arith, root-same r t₂)
+
+  pub root-less : root (wake w t) ≤ root t
+  unfolding wake wakeRoot
+  root-less = omega (arith, root-same r t₂, root-group)
 
 -- ---- a counter, with the bounds that let its vertex be found
 

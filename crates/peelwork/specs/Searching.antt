@@ -1,5 +1,5 @@
--- The search for the smallest vertex that can leave finds it where no such vertex is before the bounds of its block and group; and every store of the work keeps
--- the bounds so. Assumes nothing.
+-- The search for the smallest vertex that can leave finds it where no such vertex is before the bounds of its block, of its group and of all groups; and every
+-- store of the work keeps the bounds so. Assumes nothing.
 use Prim.Native.Nat.{ℕ, zero, suc, _+_, _-_, _*_, _/_, _%_, _≤_, _<_}
 use mathlib.Core.Path.{_≡_, refl, sym, ap, _∙_}
 use mathlib.Core.Logic.{_≢_, inl, inr}
@@ -13,8 +13,8 @@ use borrow.Author.Tests.{ltb-true, lt-ltb, le-ltb, eq-eqb, ne-eqb, eqb-true, eqb
 use Rattle.definitions.specs.Mesh.{prev, org, tip}
 use Rattle.laws.specs.Lists.{tested, clash, and-both}
 use Rattle.tables.specs.Tables.{Tables, setOp, setHead, setCount, setMark}
-use Rattle.peelwork.specs.Work.{Found, turned, near, low, top, setNear, setLow, setTop, wake, put, more, less, meet, round, enter, tag, border, pass, fan, gone, leave, can, scan, stop, rows, seat, probe, look, find, comb, survey, seek}
-use Rattle.peelwork.specs.Marks.{Beside, beside-same, beside-then, mark-other, near-small, near-same, near-other, setNear-low, setNear-top, setLow-beside, low-same, low-other, setLow-near, setLow-top, setTop-beside, top-same, top-other, setTop-near, setTop-low, wake-near, low-here, low-less, top-here, top-less}
+use Rattle.peelwork.specs.Work.{Found, turned, near, low, top, root, setNear, setLow, setTop, setRoot, wake, put, more, less, meet, round, enter, tag, border, pass, fan, gone, leave, can, scan, stop, rows, seat, probe, look, find, comb, survey, seek}
+use Rattle.peelwork.specs.Marks.{Beside, beside-same, beside-then, mark-other, near-small, near-same, near-other, setNear-low, setNear-top, setNear-root, setLow-beside, low-same, low-other, setLow-near, setLow-top, setLow-root, setTop-beside, top-same, top-other, setTop-near, setTop-low, setTop-root, setRoot-beside, root-same, setRoot-near, setRoot-low, setRoot-top, wake-near, low-here, low-less, top-here, top-less, root-here, root-less}
 
 -- ---- the test
 
@@ -37,20 +37,20 @@ can-same ts t t′ x e = ap (λ (c : ℕ). eqb c 3 && not (eqb x (org ts 0)) && 
 
 -- ---- the bounds
 
--- no vertex that can leave is before the bound of its block, and no block that has one before the bound of its group
+-- no vertex that can leave is before the bound of its block, no block that has one before the bound of its group, and no such group before that of all
 abbrev pub Bounded : List ℕ → ℕ → Tables → Type 0
-Bounded ts n t = (x : ℕ) → x < n → can ts t x ≡ true → (low t (x / 16) ≤ x % 16) × (top t (x / 256) ≤ x / 16 % 16)
+Bounded ts n t = (x : ℕ) → x < n → can ts t x ≡ true → (low t (x / 16) ≤ x % 16) × (top t (x / 256) ≤ x / 16 % 16) × (root t ≤ x / 256)
 
 module _ (ts : List ℕ) (n : ℕ) where
-  bounded-same : (t t′ : Tables) → ((x : ℕ) → near t′ x ≡ near t x) → ((b : ℕ) → low t′ b ≤ low t b) → ((g : ℕ) → top t′ g ≤ top t g) → Bounded ts n t → Bounded ts n t′
-  bounded-same t t′ e l k B x h c =
+  bounded-same : (t t′ : Tables) → ((x : ℕ) → near t′ x ≡ near t x) → ((b : ℕ) → low t′ b ≤ low t b) → ((g : ℕ) → top t′ g ≤ top t g) → root t′ ≤ root t → Bounded ts n t → Bounded ts n t′
+  bounded-same t t′ e l k r B x h c =
       let b = B x h (sym (can-same ts t t′ x (e x)) ∙ c) in
-      omega (arith, l (x / 16), k (x / 256), b .0, b .1)
+      omega (arith, l (x / 16), k (x / 256), r, b .0, b .1, b .2)
 
   -- the even marks are as they were
   bounded-marks : (t t′ : Tables) → ((x : ℕ) → t′ .mark (2 * x) ≡ t .mark (2 * x)) → Bounded ts n t → Bounded ts n t′
-  unfolding near low top
-  bounded-marks t t′ e = bounded-same t t′ (λ x. ap (λ (m : ℕ). m % 65536) (e x)) (λ b. omega (arith, e b)) (λ g. omega (arith, e g))
+  unfolding near low top root
+  bounded-marks t t′ e = bounded-same t t′ (λ x. ap (λ (m : ℕ). m % 65536) (e x)) (λ b. omega (arith, e b)) (λ g. omega (arith, e g)) (omega (arith, e 0))
 
   pass-marks : (g m : ℕ) (t : Tables) → pass ts g t .mark m ≡ t .mark m
   unfolding pass border tag setOp setHead setCount
@@ -62,20 +62,28 @@ module _ (ts : List ℕ) (n : ℕ) where
       let could = sym (can-same ts t (setLow b y t) x (setLow-near b y t x)) ∙ c in
       let r = B x h could in
       let k = setLow-top b y t s (x / 256) in
+      let z = setLow-root b y t s in
       elim (ℕ-discrete (x / 16) b) [
-        | yes q ↦ omega (arith, ap (low (setLow b y t)) q, low-same b y t s, f x h q could, k, r .1)
-        | no q ↦ omega (arith, low-other b y t (x / 16) q, k, r .0, r .1)
+        | yes q ↦ omega (arith, ap (low (setLow b y t)) q, low-same b y t s, f x h q could, k, z, r .1, r .2)
+        | no q ↦ omega (arith, low-other b y t (x / 16) q, k, z, r .0, r .1, r .2)
       ]
 
-  move-top : (g y : ℕ) (t : Tables) → ((x : ℕ) → x < n → x / 256 ≡ g → can ts t x ≡ true → y ≤ x / 16 % 16) → Bounded ts n t → Bounded ts n (setTop g y t)
-  move-top g y t f B x h c =
+  move-top : (g y : ℕ) (t : Tables) → y < 32 → ((x : ℕ) → x < n → x / 256 ≡ g → can ts t x ≡ true → y ≤ x / 16 % 16) → Bounded ts n t → Bounded ts n (setTop g y t)
+  move-top g y t s f B x h c =
       let could = sym (can-same ts t (setTop g y t) x (setTop-near g y t x)) ∙ c in
       let r = B x h could in
       let k = setTop-low g y t (x / 16) in
+      let z = setTop-root g y t s in
       elim (ℕ-discrete (x / 256) g) [
-        | yes q ↦ omega (arith, ap (top (setTop g y t)) q, top-same g y t, f x h q could, k, r .0)
-        | no q ↦ omega (arith, top-other g y t (x / 256) q, k, r .0, r .1)
+        | yes q ↦ omega (arith, ap (top (setTop g y t)) q, top-same g y t s, f x h q could, k, z, r .0, r .2)
+        | no q ↦ omega (arith, top-other g y t (x / 256) q, k, z, r .0, r .1, r .2)
       ]
+
+  move-root : (y : ℕ) (t : Tables) → ((x : ℕ) → x < n → can ts t x ≡ true → y ≤ x / 256) → Bounded ts n t → Bounded ts n (setRoot y t)
+  move-root y t f B x h c =
+      let could = sym (can-same ts t (setRoot y t) x (setRoot-near y t x)) ∙ c in
+      let r = B x h could in
+      omega (arith, setRoot-low y t (x / 16), setRoot-top y t (x / 256), root-same y t, f x h could, r .0, r .1)
 
   -- ---- a counter
 
@@ -83,8 +91,8 @@ module _ (ts : List ℕ) (n : ℕ) where
     abbrev t₁ : Tables
     t₁ = setNear w c t
 
-    others : (x : ℕ) → x < n → x ≢ w → can ts t₁ x ≡ true → (low t₁ (x / 16) ≤ x % 16) × (top t₁ (x / 256) ≤ x / 16 % 16)
-    others x h q e = rw (setNear-low w c t s (x / 16), setNear-top w c t s (x / 256)) (B x h (sym (can-same ts t t₁ x (near-other w c t x q)) ∙ e))
+    others : (x : ℕ) → x < n → x ≢ w → can ts t₁ x ≡ true → (low t₁ (x / 16) ≤ x % 16) × (top t₁ (x / 256) ≤ x / 16 % 16) × (root t₁ ≤ x / 256)
+    others x h q e = rw (setNear-low w c t s (x / 16), setNear-top w c t s (x / 256), setNear-root w c t s) (B x h (sym (can-same ts t t₁ x (near-other w c t x q)) ∙ e))
 
     bounded-off : c ≢ 3 → Bounded ts n t₁
     bounded-off k x h e =
@@ -96,10 +104,10 @@ module _ (ts : List ℕ) (n : ℕ) where
     bounded-on : Bounded ts n (wake w t₁)
     bounded-on x h e =
         elim (ℕ-discrete x w) [
-          | yes q ↦ rw q (low-here w t₁, top-here w t₁)
+          | yes q ↦ rw q (low-here w t₁, top-here w t₁, root-here w t₁)
           | no q ↦
               let r = others x h q (sym (can-same ts t₁ (wake w t₁) x (wake-near w t₁ x)) ∙ e) in
-              omega (arith, low-less w t₁ (x / 16), top-less w t₁ (x / 256), r .0, r .1)
+              omega (arith, low-less w t₁ (x / 16), top-less w t₁ (x / 256), root-less w t₁, r .0, r .1, r .2)
         ]
 
     bounded-put : Bounded ts n (put w c t)
@@ -311,6 +319,10 @@ module _ (ts : List ℕ) (n w : ℕ) (wn : w < n) where
   unfolding seat
   seat-found v e = rw (e, lt-ltb w n wn)
 
+  seat-small : (v : ℕ) → seat n v < 32
+  unfolding seat
+  seat-small v = elim (tested (ltb v n)) [ inl e ↦ rw e (omega arith) | inr e ↦ rw e (omega arith) ]
+
   module _ (g : ℕ) (t : Tables) (l : Least t) where
     abbrev start : ℕ
     start = 16 * g + top t g
@@ -331,7 +343,7 @@ module _ (ts : List ℕ) (n w : ℕ) (wn : w < n) where
           here = r .here;
           beside = beside-then (r .beside) (setTop-beside g y (f .tables));
           nears = λ x. setTop-near g y (f .tables) x ∙ r .nears x;
-          bounded = move-top ts n g y (f .tables) (λ x h e c.
+          bounded = move-top ts n g y (f .tables) (seat-small (f .vertex)) (λ x h e c.
               elim (decLt x w) [
                 | yes k ↦ clash c (can-same ts t (f .tables) x (r .nears x) ∙ l .first x k)
                 | no k ↦ omega (arith, q, e, at)
@@ -349,7 +361,7 @@ module _ (ts : List ℕ) (n w : ℕ) (wn : w < n) where
                 past = m .past;
                 beside = beside-then (m .beside) (setTop-beside g y (f .tables));
                 nears = λ x. setTop-near g y (f .tables) x ∙ m .nears x;
-                bounded = move-top ts n g y (f .tables) (λ x h r c. clash c (can-same ts t (f .tables) x (m .nears x) ∙ l .first x (omega (arith, q, r)))) (m .bounded);
+                bounded = move-top ts n g y (f .tables) (seat-small (f .vertex)) (λ x h r c. clash c (can-same ts t (f .tables) x (m .nears x) ∙ l .first x (omega (arith, q, r)))) (m .bounded);
               })
           | inr e ↦ rw e (record { past = omega arith; beside = beside-same t; nears = λ x. refl; bounded = l .bounded })
         ]
@@ -367,6 +379,26 @@ module _ (ts : List ℕ) (n w : ℕ) (wn : w < n) where
             rw (le-ltb (f .vertex) n (m .past)) (onward ts n w n t f (seek ts n k (suc g) (f .tables)) m r)
       ]
 
-  -- the whole search
-  pub sought-all : (t : Tables) → Bounded ts n t → can ts t w ≡ true → ((y : ℕ) → y < w → can ts t y ≡ false) → Sought ts n t w (seek ts n (n / 256 + 1) 0 t)
-  sought-all t B able first = seek-finds (n / 256 + 1) 0 t (omega arith) (omega arith) (record { bounded = B; able = able; first = first })
+  -- the whole search, from the bound of all groups on, which is moved
+  module _ (t : Tables) (B : Bounded ts n t) (able : can ts t w ≡ true) (first : (y : ℕ) → y < w → can ts t y ≡ false) where
+    abbrev a : Found
+    a = seek ts n (n / 256 + 1 - root t) (root t) t
+
+    at-last : Sought ts n t w a
+    at-last =
+        let k = B w wn able .2 in
+        seek-finds (n / 256 + 1 - root t) (root t) t k (omega (arith, k, wn)) (record { bounded = B; able = able; first = first })
+
+    pub sought-here : a .vertex ≡ w
+    sought-here = at-last .here
+
+    pub sought-all : Sought ts n t w (record { vertex = w; tables = setRoot (w / 256) (a .tables) })
+    sought-all = record {
+      here = refl;
+      beside = beside-then (at-last .beside) (setRoot-beside (w / 256) (a .tables));
+      nears = λ x. setRoot-near (w / 256) (a .tables) x ∙ at-last .nears x;
+      bounded = move-root ts n (w / 256) (a .tables) (λ x h c. elim (decLt x w) [
+        | yes k ↦ clash c (can-same ts t (a .tables) x (at-last .nears x) ∙ first x k)
+        | no k ↦ omega arith
+      ]) (at-last .bounded);
+    }

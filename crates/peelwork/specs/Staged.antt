@@ -1,6 +1,6 @@
 -- The whole stage: with an accepted mesh's opposites in the tables it leaves the labels of the definition and the trace of its peeling.
 -- Assumes nothing.
-use Prim.Native.Nat.{ℕ, zero, suc, _+_, _-_, _*_, _/_, _≤_, _<_}
+use Prim.Native.Nat.{ℕ, _+_, _-_, _*_, _/_, _≤_, _<_}
 use mathlib.Core.Path.{_≡_, refl, sym, ap, _∙_}
 use mathlib.Core.Logic.{_≢_, _⊎_, inl, inr}
 use mathlib.Core.Bool.{false}
@@ -27,7 +27,7 @@ use Rattle.peeling.specs.NeverStuck.{peel-is, passed-is, passed-all, passed-onc
 use Rattle.peeling.specs.Colours.{coloured-trace, label-two}
 use Rattle.peeling.specs.Realized.{realized}
 use Rattle.peeling.specs.Labelled.{label-is, label-rule, passed-labels}
-use Rattle.stage.specs.Stage.{Peeled}
+use Rattle.stage.specs.Stage.{Peeled, outer-label}
 use Rattle.tables.specs.Tables.{Tables, view}
 use Rattle.peelwork.specs.Work.{begin, stage}
 use Rattle.peelwork.specs.Passing.{inner-dart, dart-inner, code}
@@ -100,18 +100,11 @@ module _ (n : ℕ) (ts : List ℕ) (s : Sphere n (length ts / 3) (org ts) (opp t
   unfolding code
   outer-code d h = rw (lt-ltb d 3 h)
 
-  outer-label : (d : ℕ) → d < 3 → label (labels n ts) d ≡ 3
-  unfolding label
-  outer-label zero h = refl
-  outer-label (suc zero) h = refl
-  outer-label (suc (suc zero)) h = refl
-  outer-label (suc (suc (suc d))) h = absurd (omega arith)
-
   -- once every inner triangle has one dart passed the numbers above 65536 are the labels
   code-is : (d : ℕ) → d < length ts → code P d ≡ label (labels n ts) d
   code-is d h =
       elim (decLt d 3) [
-        | yes l ↦ outer-code d l ∙ sym (outer-label d l)
+        | yes l ↦ outer-code d l ∙ sym (outer-label (labels n ts) d l)
         | no l ↦ let i : 3 ≤ d = omega arith in inner-code d i h ∙ sym (label-is n ts d i (omega (arith, len)))
       ]
 

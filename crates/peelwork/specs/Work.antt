@@ -1,7 +1,8 @@
 -- The work of the peeling on the tables, as pure functions in the shape of the code. Definitions only.
 -- `op` keeps, below 65536, the opposite of each dart and, above it, the label of its corner. `mark (2 * w)` keeps, below 65536, 0 for a vertex w that
--- is not on the frontier, and one more than the number of its frontier neighbours for one that is. Above it are the bounds of block w, below 32, and
--- of group w: so many of the 16 vertices from 16 * w on cannot leave, and so many of the 16 blocks from 16 * w on have none that can.
+-- is not on the frontier, and one more than the number of its frontier neighbours for one that is. Above it are the bounds of block w and of group w,
+-- both below 32: so many of the 16 vertices from 16 * w on cannot leave, and so many of the 16 blocks from 16 * w on have none that can. Above these
+-- `mark 0` keeps the bound of all groups: so many of them have no vertex that can leave.
 -- `mark (2 * i + 1)` is the i-th vertex that leaves.
 -- `head` and `count` hold, for a frontier vertex, the frontier's dart that leaves it and the frontier's dart that leads to it.
 use Prim.Native.Nat.{ℕ, zero, suc, _+_, _-_, _*_, _/_, _%_, _≤_, _<_, min}
@@ -41,7 +42,11 @@ unfoldable pub low : Tables → ℕ → ℕ
 low t b = t .mark (2 * b) / 65536 % 32
 
 unfoldable pub top : Tables → ℕ → ℕ
-top t g = t .mark (2 * g) / 2097152
+top t g = t .mark (2 * g) / 2097152 % 32
+
+-- and the bound of all groups
+unfoldable pub root : Tables → ℕ
+root t = t .mark (2 * 0) / 67108864
 
 -- ---- stores
 
@@ -52,17 +57,23 @@ unfoldable pub setLow : ℕ → ℕ → Tables → Tables
 setLow b x t = setMark (2 * b) (t .mark (2 * b) % 65536 + 65536 * x + 2097152 * (t .mark (2 * b) / 2097152)) t
 
 unfoldable pub setTop : ℕ → ℕ → Tables → Tables
-setTop g x t = setMark (2 * g) (t .mark (2 * g) % 2097152 + 2097152 * x) t
+setTop g x t = setMark (2 * g) (t .mark (2 * g) % 2097152 + 2097152 * x + 67108864 * (t .mark (2 * g) / 67108864)) t
 
--- the bounds of w's block and group let w be found
+unfoldable pub setRoot : ℕ → Tables → Tables
+setRoot x t = setMark (2 * 0) (t .mark (2 * 0) % 67108864 + 67108864 * x) t
+
+-- the bounds let w be found
 unfoldable pub wakeBlock : ℕ → Tables → Tables
 wakeBlock w t = setLow (w / 16) (min (low t (w / 16)) (w % 16)) t
 
 unfoldable pub wakeGroup : ℕ → Tables → Tables
 wakeGroup w t = setTop (w / 256) (min (top t (w / 256)) (w / 16 % 16)) t
 
+unfoldable pub wakeRoot : ℕ → Tables → Tables
+wakeRoot w t = setRoot (min (root t) (w / 256)) t
+
 unfoldable pub wake : ℕ → Tables → Tables
-wake w t = wakeGroup w (wakeBlock w t)
+wake w t = wakeRoot w (wakeGroup w (wakeBlock w t))
 
 -- a counter, with which w may be able to leave
 unfoldable pub put : ℕ → ℕ → Tables → Tables
@@ -198,11 +209,11 @@ module _ (ts : List ℕ) where
 
   -- ---- the vertices in turn
 
-  -- the smallest vertex that can leave does so, as the i-th
+  -- the smallest vertex that can leave is looked for from the bound of all groups on, which is moved to its group, and leaves, as the i-th
   unfoldable pub turn : ℕ → ℕ → Tables → Tables
   turn n i t =
-      let f = seek n (n / 256 + 1) 0 t in
-      cond (ltb (f .vertex) n) (leave i (f .vertex) (f .tables)) (f .tables)
+      let f = seek n (n / 256 + 1 - root t) (root t) t in
+      cond (ltb (f .vertex) n) (leave i (f .vertex) (setRoot (f .vertex / 256) (f .tables))) (f .tables)
 
   -- k vertices leave, as the i-th and so on
   unfoldable pub leaveAll : ℕ → ℕ → ℕ → Tables → Tables

@@ -12,7 +12,7 @@ use borrow.Author.Tests.{lt-ltb, le-ltb, ltb-true, eq-eqb, ne-eqb}
 use Rattle.laws.specs.Lists.{and-both}
 use Rattle.definitions.specs.Words.{any, upto}
 use Rattle.definitions.specs.Mesh.{tri}
-use Rattle.tables.specs.Tables.{Tables, view, upd, upd-at, upd-other, markIn, setMark, withMark}
+use Rattle.tables.specs.Tables.{only-mark, Tables, view, upd, upd-at, upd-other, markIn, setMark, withMark}
 use Rattle.checkwork.specs.Reach.{Front, fresh, visit, popped, leave, explore, begin}
 
 -- room for the marks of m triangles
@@ -26,10 +26,6 @@ pub record Wiping (s₀ s : List ℤ) (t : ℕ) : Type 0 where
   pub long : length s ≡ length s₀
   pub same : view s ≡ withMark (view s .mark) (view s₀)
   pub zeros : (i : ℕ) → i < t → view s .mark i ≡ 0
-
-only-mark : (t t₀ : Tables) (f : ℕ → ℕ) → t ≡ withMark f t₀ → t ≡ withMark (t .mark) t₀
-unfolding withMark
-only-mark t t₀ f e = e ∙ ap (λ (g : ℕ → ℕ). withMark g t₀) (sym (ap (λ (t : Tables). t .mark) e))
 
 pub wiping-start : (s : List ℤ) → Wiping s s 0
 unfolding withMark

@@ -10,7 +10,7 @@ use borrow.Author.Tests.{lt-ltb, le-ltb, eq-eqb, ne-eqb}
 use lib.IntN.{ℤ}
 use Rattle.definitions.specs.Mesh.{next, prev, org, tip}
 use Rattle.sphere.specs.Darts.{next-prev, prev-next}
-use Rattle.tables.specs.Tables.{Tables, view, upd, setOp, setMark, withOp, withMark}
+use Rattle.tables.specs.Tables.{only-mark, Tables, view, upd, setOp, setMark, withOp, withMark}
 use Rattle.checkwork.specs.Buckets.{chain, push, fill, Counted, push-counts, Headed, push-heads}
 use Rattle.checkwork.specs.Twice.{Scan, noted, isOf, clashes, scan, scanAll, scan-clash, scan-on}
 use Rattle.checkwork.specs.Join.{Join, Round, facing, meets, join, joinAll}
@@ -38,10 +38,6 @@ filled-next ts s₀ s s′ d h l e I =
     }
 
 -- ---- tables that differ in one table only
-
-pub only-mark : (t t₀ : Tables) (f : ℕ → ℕ) → t ≡ withMark f t₀ → t ≡ withMark (t .mark) t₀
-unfolding withMark
-only-mark t t₀ f e = e ∙ ap (λ (g : ℕ → ℕ). withMark g t₀) (sym (ap (λ (t : Tables). t .mark) e))
 
 pub only-op : (t t₀ : Tables) (f : ℕ → ℕ) → t ≡ withOp f t₀ → t ≡ withOp (t .op) t₀
 unfolding withOp

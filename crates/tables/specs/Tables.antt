@@ -3,19 +3,19 @@
 -- darts, one the even marks and one the odd ones. So each table stands in one piece. An index past its table reads as 0 and is not stored to.
 use Prim.Native.Nat.{ℕ, zero, _+_, _*_, _/_, _%_, _≤_, _<_, _^_}
 use native.Mathlib.Omega.{arith}
-use mathlib.Core.Path.{_≡_, refl, sym, fun-ext, _∙_}
+use mathlib.Core.Path.{_≡_, refl, sym, ap, fun-ext, _∙_}
 use mathlib.Core.Logic.{_≢_}
-use mathlib.Core.Bool.{Bool, true, false, cond}
+use mathlib.Core.Bool.{true, false, cond}
 use mathlib.Core.List.{List, map}
 use lib.Dec.{T, eqb, ltb}
-use lib.ListN.{length, getD, set, length-set, length-map, List·getD-map, List·getD-eq-default}
+use lib.ListN.{length, getD, set, length-set, length-map, List·getD-map}
 use lib.Seq.{getD-set-same, getD-set-other, ext-getD}
 use native.Mathlib.Decide.{ℕ-discrete, decLe}
 use lib.IntN.{ℤ, pos, negsuc, natAbs}
 use lib.Signed.{ltZ, nonNeg}
 use mir.Syntax.{w64}
 use mir.Val.{SFits}
-use borrow.Author.Tests.{lt-ltb, le-ltb, eq-eqb, ne-eqb, eqb-true, eqb-false}
+use borrow.Author.Tests.{lt-ltb, le-ltb, eq-eqb, ne-eqb}
 
 -- ---- functions changed at one place
 
@@ -106,6 +106,11 @@ withOp op t = record { op = op; head = t .head; count = t .count; mark = t .mark
 
 unfoldable pub withMark : (ℕ → ℕ) → Tables → Tables
 withMark mark t = record { op = t .op; head = t .head; count = t .count; mark = mark }
+
+-- a table of which only the marks are changed, known by its own
+pub only-mark : (t t₀ : Tables) (f : ℕ → ℕ) → t ≡ withMark f t₀ → t ≡ withMark (t .mark) t₀
+unfolding withMark
+only-mark t t₀ f e = e ∙ ap (λ (g : ℕ → ℕ). withMark g t₀) (sym (ap (λ (t : Tables). t .mark) e))
 
 unfoldable pub blank : Tables
 blank = record { op = λ _. 0; head = λ _. 0; count = λ _. 0; mark = λ _. 0 }
@@ -240,31 +245,6 @@ dart-place words d h = omega arith
 pub mark-place : (words t : ℕ) → markIn words t → markAt (column words) t < words
 mark-place words t h = omega (arith, mark-range (words / 10) t h)
 
--- ---- zeros
-
-cell-blank : (s : List ℤ) (i : ℕ) → cell (map (λ _. pos 0) s) i ≡ 0
-unfolding cell value
-cell-blank s i = rw (List·getD-map (λ (_ : ℤ). pos 0) s i (pos 0))
-
-entry-blank : (s : List ℤ) (at : ℕ → ℕ) (size : ℕ) → entry (map (λ _. pos 0) s) at size ≡ (λ _. 0)
-entry-blank s at size = fun-ext (λ i. elim (decLe size i) [
-  | yes q ↦ entry-past (map (λ _. pos 0) s) at size i q
-  | no q ↦ entry-in (map (λ _. pos 0) s) at size i (omega (arith, q)) ∙ cell-blank s (at i)
-])
-
-columns-blank : (c : ℕ) (s : List ℤ) → columns c (map (λ _. pos 0) s) ≡ blank
-unfolding columns blank
-columns-blank c s = λ i. record {
-  op = entry-blank s (λ d. d) (6 * c) i;
-  head = entry-blank s (λ v. 6 * c + v) c i;
-  count = entry-blank s (λ v. 7 * c + v) c i;
-  mark = entry-blank s (markAt c) (2 * c) i;
-}
-
-pub view-blank : (s : List ℤ) → view (map (λ _. pos 0) s) ≡ blank
-unfolding view
-view-blank s = columns-blank (column (length (map (λ _. pos 0) s))) s
-
 -- ---- a word as the code reads it
 
 pub value-below : (x : ℤ) → ltZ x (pos 0) ≡ true → 0 ≡ value x
@@ -317,22 +297,55 @@ module _ (s : List ℤ) where
   unfolding view columns
   mark-past t h = sym (entry-past s (markAt (length s / 10)) (2 * (length s / 10)) t h)
 
--- ---- the loop that clears: `i` words are zero
+-- ---- the loop that clears: the words from k on and before i are zero
 
-pub record Cleared (s s′ : List ℤ) (i : ℕ) : Type 0 where
+pub record Cleared (s s′ : List ℤ) (k i : ℕ) : Type 0 where
   pub long : length s′ ≡ length s
-  pub zero : (k : ℕ) → k < i → getD s′ k (pos 0) ≡ pos 0
+  pub same : (j : ℕ) → j < k → getD s′ j (pos 0) ≡ getD s j (pos 0)
+  pub zero : (j : ℕ) → k ≤ j → j < i → getD s′ j (pos 0) ≡ pos 0
 
-pub cleared-more : (s s′ : List ℤ) (i : ℕ) → i < length s′ → Cleared s s′ i → Cleared s (set s′ i (pos 0)) (i + 1)
-cleared-more s s′ i h c = record {
+pub cleared-none : (s : List ℤ) (k : ℕ) → Cleared s s k k
+cleared-none s k = record { long = refl; same = λ j h. refl; zero = λ j h l. absurd (omega arith) }
+
+pub cleared-more : (s s′ : List ℤ) (k i : ℕ) → k ≤ i → i < length s′ → Cleared s s′ k i → Cleared s (set s′ i (pos 0)) k (i + 1)
+cleared-more s s′ k i g h c = record {
   long = length-set s′ i (pos 0) ∙ c .long;
-  zero = λ k q. elim (ℕ-discrete k i) [
+  same = λ j q. getD-set-other s′ i j (pos 0) (pos 0) (omega arith) ∙ c .same j q;
+  zero = λ j q l. elim (ℕ-discrete j i) [
     | yes e ↦ rw e (getD-set-same s′ i (pos 0) (pos 0) h)
-    | no e ↦ getD-set-other s′ i k (pos 0) (pos 0) e ∙ c .zero k (omega (arith, e))
+    | no e ↦ getD-set-other s′ i j (pos 0) (pos 0) e ∙ c .zero j q (omega (arith, e))
   ];
 }
 
-pub cleared-all : (s s′ : List ℤ) (i : ℕ) → length s′ ≤ i → Cleared s s′ i → s′ ≡ map (λ _. pos 0) s
-cleared-all s s′ i h c =
+pub cleared-end : (s s′ : List ℤ) (k i : ℕ) → length s′ ≤ i → Cleared s s′ k i → Cleared s s′ k (length s)
+cleared-end s s′ k i h c = record { long = c .long; same = c .same; zero = λ j q l. c .zero j q (omega (arith, c .long)) }
+
+pub cleared-all : (s s′ : List ℤ) → Cleared s s′ 0 (length s) → s′ ≡ map (λ _. pos 0) s
+cleared-all s s′ c =
     ext-getD (pos 0) s′ (map (λ _. pos 0) s) (c .long ∙ sym (length-map s (λ (_ : ℤ). pos 0)))
-    (λ k q. c .zero k (omega arith) ∙ sym (List·getD-map (λ (_ : ℤ). pos 0) s k (pos 0)))
+    (λ k q. c .zero k (omega arith) (omega (arith, c .long)) ∙ sym (List·getD-map (λ (_ : ℤ). pos 0) s k (pos 0)))
+
+entry-kept : (s s′ : List ℤ) (at : ℕ → ℕ) (size : ℕ) → ((j : ℕ) → j < size → getD s′ (at j) (pos 0) ≡ getD s (at j) (pos 0)) → entry s′ at size ≡ entry s at size
+unfolding cell
+entry-kept s s′ at size f = fun-ext (λ j. elim (decLe size j) [
+  | yes q ↦ entry-past s′ at size j q ∙ sym (entry-past s at size j q)
+  | no q ↦ let h : j < size = omega (arith, q) in entry-in s′ at size j h ∙ ap value (f j h) ∙ sym (entry-in s at size j h)
+])
+
+entry-zero : (s : List ℤ) (at : ℕ → ℕ) (size : ℕ) → ((j : ℕ) → j < size → getD s (at j) (pos 0) ≡ pos 0) → entry s at size ≡ (λ _. 0)
+unfolding cell value
+entry-zero s at size f = fun-ext (λ j. elim (decLe size j) [
+  | yes q ↦ entry-past s at size j q
+  | no q ↦ let h : j < size = omega (arith, q) in entry-in s at size j h ∙ ap value (f j h)
+])
+
+-- all tables but the one of the darts
+pub cleared-tables : (s s′ : List ℤ) → Cleared s s′ (6 * column (length s)) (length s) → view s′ ≡ withOp (view s .op) blank
+unfolding view columns withOp blank
+cleared-tables s s′ c = let k = length s / 10 in
+    rw (c .long) (λ i. record {
+      op = entry-kept s s′ (λ d. d) (6 * k) (c .same) i;
+      head = entry-zero s′ (λ v. 6 * k + v) k (λ j h. c .zero (6 * k + j) (omega arith) (omega arith)) i;
+      count = entry-zero s′ (λ v. 7 * k + v) k (λ j h. c .zero (7 * k + j) (omega arith) (omega arith)) i;
+      mark = entry-zero s′ (markAt k) (2 * k) (λ j h. let r = mark-range k j h in c .zero (markAt k j) (omega (arith, r)) (omega (arith, r))) i;
+    })

@@ -2,11 +2,11 @@
 // Reading is total: an index past its table, and a word below zero, read as 0.
 ghost use mathlib.Core.Path.{_≡_};
 ghost use mathlib.Core.List.{map};
-ghost use Prim.Native.Nat.{_*_, _<_, _≤_, _^_};
+ghost use Prim.Native.Nat.{_*_, _<_, _^_};
 ghost use lib.ListN.{length, set};
 ghost use lib.IntN.{pos};
 ghost use Rattle.definitions.specs.Mesh.{org, tip, next, prev};
-ghost use Rattle.tables.specs.Tables.{value, cell, column, dartIn, vertexIn, markIn, markAt, view, setOp, setHead, setCount, setMark};
+ghost use Rattle.tables.specs.Tables.{value, cell, dartIn, vertexIn, markIn, markAt, view, setOp, setHead, setCount, setMark, withOp, blank, Cleared};
 
 fn wide(x: u16) -> usize
     ensures { λ r. ⌜ (r ≡ x) × (r < 65536) ⌝ }
@@ -147,13 +147,28 @@ pub fn set_mark(s: &mut [i64], t: usize, x: usize)
     poke(s, mark_at(c, t), x);
 }
 
-// zeros in every word
-pub fn clear(s: &mut [i64])
-    ensures { λ r. ⌜ now (s .exit) ≡ map (λ _. pos 0) (now (s .entry)) ⌝ }
+// zeros in every word from k on
+fn clear_from(s: &mut [i64], k: usize)
+    ensures { λ r. ⌜ Cleared (now (s .entry)) (now (s .exit)) k (length (now (s .entry))) ⌝ }
 {
-    let mut i = 0;
+    let mut i = k;
     while i < s.len() {
         s[i] = 0;
         i += 1;
     }
+}
+
+// zeros in every word
+pub fn clear(s: &mut [i64])
+    ensures { λ r. ⌜ now (s .exit) ≡ map (λ _. pos 0) (now (s .entry)) ⌝ }
+{
+    clear_from(s, 0);
+}
+
+// zeros in every table but that of the darts
+pub fn clear_tables(s: &mut [i64])
+    ensures { λ r. ⌜ view (now (s .exit)) ≡ withOp (view (now (s .entry)) .op) blank ⌝ }
+{
+    let c = s.len() / 10;
+    clear_from(s, 6 * c);
 }

@@ -18,28 +18,28 @@ doubled-vertex-requires c κs = can-test (c .before .before .before .args .n) (c
 returns-2 : tie.Need-returns-2
 returns-2 c = mesh-4 (c .before .before .before .before .before .args .n) (c .before .before .before .before .before .args .triangles .now) (sym (c .before .before .before .high-vertex .ensures) ∙ c .before .before .if1 .left) (sym (c .before .doubled-vertex .ensures) ∙ c .if2 .taken)
 
-clear-requires : tie.Need-clear-requires
-clear-requires c κs = search needs
+clear-tables-requires : tie.Need-clear-tables-requires
+clear-tables-requires c κs = search needs
 
 fill-lists-requires : tie.Need-fill-lists-requires
-fill-lists-requires c κs = can-fill (c .before .before .before .before .before .before .before .before .before .args .n) (c .before .before .before .before .before .before .before .before .before .args .triangles .now) (c .before .before .before .before .before .before .before .before .before .args .s .now) (c .before .before .clear .last .0) (c .before .before .before .before .before .before .before .before .before .pre) (sym (c .before .before .before .before .before .before .before .high-vertex .ensures) ∙ c .before .before .before .before .before .before .if1 .left) (c .before .before .clear .kept .0) (c .before .before .clear .ensures)
+fill-lists-requires c κs = can-fill (c .before .before .before .before .before .before .before .before .before .args .n) (c .before .before .before .before .before .before .before .before .before .args .triangles .now) (c .before .before .before .before .before .before .before .before .before .args .s .now) (c .before .before .clear-tables .last .0) (c .before .before .before .before .before .before .before .before .before .pre) (sym (c .before .before .before .before .before .before .before .high-vertex .ensures) ∙ c .before .before .before .before .before .before .if1 .left) (c .before .before .clear-tables .kept .0) (c .before .before .clear-tables .ensures)
 
 match-sides-requires : tie.Need-match-sides-requires
-match-sides-requires c κs = can-match (c .before .before .before .before .before .before .before .before .before .before .before .before .args .n) (c .before .before .before .before .before .before .before .before .before .before .before .before .args .triangles .now) _ (c .before .before .before .before .before .before .before .before .before .before .before .before .pre) (sym (c .before .before .before .before .before .before .before .before .before .before .high-vertex .ensures) ∙ c .before .before .before .before .before .before .before .before .before .if1 .left) (c .before .before .before .before .before .before .before .before .before .before .before .before .args .s .now) (c .before .before .before .before .before .clear .last .0) (c .before .before .fill-lists .last .1 .0) (c .before .before .before .before .before .clear .ensures) (c .before .before .fill-lists .ensures)
-    (c .before .before .fill-lists .kept .1 .0 ∙ c .before .before .before .before .before .clear .kept .0)
+match-sides-requires c κs = can-match (c .before .before .before .before .before .before .before .before .before .before .before .before .args .n) (c .before .before .before .before .before .before .before .before .before .before .before .before .args .triangles .now) _ (c .before .before .before .before .before .before .before .before .before .before .before .before .pre) (sym (c .before .before .before .before .before .before .before .before .before .before .high-vertex .ensures) ∙ c .before .before .before .before .before .before .before .before .before .if1 .left) (c .before .before .before .before .before .before .before .before .before .before .before .before .args .s .now) (c .before .before .before .before .before .clear-tables .last .0) (c .before .before .fill-lists .last .1 .0) (c .before .before .before .before .before .clear-tables .ensures) (c .before .before .fill-lists .ensures)
+    (c .before .before .fill-lists .kept .1 .0 ∙ c .before .before .before .before .before .clear-tables .kept .0)
 
 same-length : tie.Need-same-length
 same-length c = search needs
 
 returns-3 : tie.Need-returns-3
-returns-3 c = refuse5 (c .before .before .before .before .before .before .before .before .before .before .before .before .before .before .before .args .n) (c .before .before .before .before .before .before .before .before .before .before .before .before .before .before .before .args .triangles .now) _ (c .before .before .before .before .before .before .before .before .before .before .before .before .before .before .before .pre) (sym (c .before .before .before .before .before .before .before .before .before .before .before .before .before .high-vertex .ensures) ∙ c .before .before .before .before .before .before .before .before .before .before .before .before .if1 .left) (c .before .before .before .before .before .before .before .before .before .before .before .before .before .before .before .args .s .now) (c .before .before .before .before .before .before .before .before .clear .last .0) (c .before .before .before .before .before .fill-lists .last .1 .0) (c .before .before .before .before .before .before .before .before .clear .ensures) (c .before .before .before .before .before .fill-lists .ensures)
+returns-3 c = refuse5 (c .before .before .before .before .before .before .before .before .before .before .before .before .before .before .before .args .n) (c .before .before .before .before .before .before .before .before .before .before .before .before .before .before .before .args .triangles .now) _ (c .before .before .before .before .before .before .before .before .before .before .before .before .before .before .before .pre) (sym (c .before .before .before .before .before .before .before .before .before .before .before .before .before .high-vertex .ensures) ∙ c .before .before .before .before .before .before .before .before .before .before .before .before .if1 .left) (c .before .before .before .before .before .before .before .before .before .before .before .before .before .before .before .args .s .now) (c .before .before .before .before .before .before .before .before .clear-tables .last .0) (c .before .before .before .before .before .fill-lists .last .1 .0) (c .before .before .before .before .before .before .before .before .clear-tables .ensures) (c .before .before .before .before .before .fill-lists .ensures)
     (sym (c .before .before .before .before .before .before .before .before .before .before .before .doubled-vertex .ensures) ∙ c .before .before .before .before .before .before .before .before .before .before .if2 .left) (c .before .before .match-sides .last .1 .1 .0) (c .before .before .match-sides .result) (c .before .before .match-sides .ensures) (c .if3 .taken)
 
 same-length-2 : tie.Need-same-length-2
 same-length-2 c = search needs
 
 returns-4 : tie.Need-returns-4
-returns-4 c = refuse6 (c .before .before .before .before .before .before .before .before .before .before .before .before .before .before .before .before .args .n) (c .before .before .before .before .before .before .before .before .before .before .before .before .before .before .before .before .args .triangles .now) _ (c .before .before .before .before .before .before .before .before .before .before .before .before .before .before .before .before .pre) (sym (c .before .before .before .before .before .before .before .before .before .before .before .before .before .before .high-vertex .ensures) ∙ c .before .before .before .before .before .before .before .before .before .before .before .before .before .if1 .left) (c .before .before .before .before .before .before .before .before .before .before .before .before .before .before .before .before .args .s .now) (c .before .before .before .before .before .before .before .before .before .clear .last .0) (c .before .before .before .before .before .before .fill-lists .last .1 .0) (c .before .before .before .before .before .before .before .before .before .clear .ensures) (c .before .before .before .before .before .before .fill-lists .ensures)
+returns-4 c = refuse6 (c .before .before .before .before .before .before .before .before .before .before .before .before .before .before .before .before .args .n) (c .before .before .before .before .before .before .before .before .before .before .before .before .before .before .before .before .args .triangles .now) _ (c .before .before .before .before .before .before .before .before .before .before .before .before .before .before .before .before .pre) (sym (c .before .before .before .before .before .before .before .before .before .before .before .before .before .before .high-vertex .ensures) ∙ c .before .before .before .before .before .before .before .before .before .before .before .before .before .if1 .left) (c .before .before .before .before .before .before .before .before .before .before .before .before .before .before .before .before .args .s .now) (c .before .before .before .before .before .before .before .before .before .clear-tables .last .0) (c .before .before .before .before .before .before .fill-lists .last .1 .0) (c .before .before .before .before .before .before .before .before .before .clear-tables .ensures) (c .before .before .before .before .before .before .fill-lists .ensures)
     (sym (c .before .before .before .before .before .before .before .before .before .before .before .before .doubled-vertex .ensures) ∙ c .before .before .before .before .before .before .before .before .before .before .before .if2 .left) (c .before .before .before .match-sides .last .1 .1 .0) (c .before .before .before .match-sides .result) (c .before .before .before .match-sides .ensures) (c .if4 .taken)
 
 same-length-3 : tie.Need-same-length-3
@@ -47,7 +47,7 @@ same-length-3 c = search needs
 
 returns-5 : tie.Need-returns-5
 returns-5 c = (
-  pairs (c .before .before .before .before .before .before .before .before .before .before .before .before .before .before .before .before .args .n) (c .before .before .before .before .before .before .before .before .before .before .before .before .before .before .before .before .args .triangles .now) _ (c .before .before .before .before .before .before .before .before .before .before .before .before .before .before .before .before .pre) (sym (c .before .before .before .before .before .before .before .before .before .before .before .before .before .before .high-vertex .ensures) ∙ c .before .before .before .before .before .before .before .before .before .before .before .before .before .if1 .left) (c .before .before .before .before .before .before .before .before .before .before .before .before .before .before .before .before .args .s .now) (c .before .before .before .before .before .before .before .before .before .clear .last .0) (c .before .before .before .before .before .before .fill-lists .last .1 .0) (c .before .before .before .before .before .before .before .before .before .clear .ensures) (c .before .before .before .before .before .before .fill-lists .ensures)
+  pairs (c .before .before .before .before .before .before .before .before .before .before .before .before .before .before .before .before .args .n) (c .before .before .before .before .before .before .before .before .before .before .before .before .before .before .before .before .args .triangles .now) _ (c .before .before .before .before .before .before .before .before .before .before .before .before .before .before .before .before .pre) (sym (c .before .before .before .before .before .before .before .before .before .before .before .before .before .before .high-vertex .ensures) ∙ c .before .before .before .before .before .before .before .before .before .before .before .before .before .if1 .left) (c .before .before .before .before .before .before .before .before .before .before .before .before .before .before .before .before .args .s .now) (c .before .before .before .before .before .before .before .before .before .clear-tables .last .0) (c .before .before .before .before .before .before .fill-lists .last .1 .0) (c .before .before .before .before .before .before .before .before .before .clear-tables .ensures) (c .before .before .before .before .before .before .fill-lists .ensures)
       (sym (c .before .before .before .before .before .before .before .before .before .before .before .before .doubled-vertex .ensures) ∙ c .before .before .before .before .before .before .before .before .before .before .before .if2 .left) (c .before .before .before .match-sides .last .1 .1 .0) (c .before .before .before .match-sides .result) (c .before .before .before .match-sides .ensures) (c .before .if3 .left) (c .if4 .left),
   refl,
 )
@@ -60,7 +60,7 @@ pair-sides-spec =
     returns
     doubled-vertex-requires
     returns-2
-    clear-requires
+    clear-tables-requires
     fill-lists-requires
     match-sides-requires
     same-length

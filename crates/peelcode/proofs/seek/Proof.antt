@@ -1,22 +1,22 @@
 -- `peelcode::seek` meets its contract: the search from the group that the loop stands at comes to the whole of it. Assumes nothing.
-use native.Mathlib.Omega.{arith}
 use Prim.Native.Nat.{_+_, _-_, _/_}
 use mathlib.Core.Path.{_∙_}
-use Rattle.peelcode.specs.Steps.{Seeking, seeking-none, wide-kept, seek-over, seek-more, seek-none}
+use native.Mathlib.Omega.{arith}
+use Rattle.peelcode.specs.Steps.{wide-kept, Seeking, seeking-none, seek-over, seek-more, seek-none}
 use Rattle.peelcode.proofs.seek.Statement.{statement}
 use Rattle.peelcode.proofs.seek.Tie as tie
 
 abbrev Inv-loop : tie.InvT-loop
-Inv-loop triangles s₀ n groups g₀ s g = Seeking triangles n groups s₀ s g
+Inv-loop triangles s₀ n from groups g₀ s g = Seeking triangles n groups from s₀ s g
 
 abbrev μ-loop : tie.MeasureT-loop
-μ-loop triangles s₀ n groups g₀ s g = groups - g
+μ-loop triangles s₀ n from groups g₀ s g = groups - g
 
 add-groups : tie.Need-add-groups Inv-loop μ-loop
 add-groups c = omega (arith, c .before .pre .0 .small)
 
 loop-holds : tie.Need-loop-holds Inv-loop μ-loop
-loop-holds c = seeking-none _ (c .before .args .n) _ _
+loop-holds c = seeking-none _ (c .before .args .n) _ (c .before .args .from) _
 
 survey-requires : tie.Need-survey-requires Inv-loop μ-loop
 survey-requires c κs = (wide-kept (c .before .before .loop .inv .long) (c .before .before .before .before .pre .0), omega (arith, c .before .loop-test .taken, c .before .before .before .before .pre .1))
@@ -34,7 +34,10 @@ loop-less : tie.Need-loop-less Inv-loop μ-loop
 loop-less c = omega (arith, c .before .before .before .before .loop-test .taken)
 
 loop-again : tie.Need-loop-again Inv-loop μ-loop
-loop-again c = record { long = c .before .before .survey .kept .1 .0 ∙ c .before .before .before .before .before .loop .inv .long; rest = seek-more _ (c .before .before .before .before .before .before .before .args .n) (c .before .before .before .before .before .before .before .args .n / 256 + 1) (c .before .before .before .before .before .loop .g) (c .before .before .survey .result) _ _ _ (c .before .before .before .before .loop-test .taken) (c .before .before .survey .ensures) (c .if1 .left) (c .before .before .before .before .before .loop .inv .rest) }
+loop-again c = record {
+  long = c .before .before .survey .kept .1 .0 ∙ c .before .before .before .before .before .loop .inv .long;
+  rest = seek-more _ (c .before .before .before .before .before .before .before .args .n) (c .before .before .before .before .before .before .before .args .n / 256 + 1) (c .before .before .before .before .before .loop .g) (c .before .before .survey .result) _ _ _ (c .before .before .before .before .loop-test .taken) (c .before .before .survey .ensures) (c .if1 .left) (c .before .before .before .before .before .loop .inv .rest);
+}
 
 same-length-2 : tie.Need-same-length-2 Inv-loop μ-loop
 same-length-2 c = c .before .loop .inv .long

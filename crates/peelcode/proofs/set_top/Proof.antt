@@ -15,10 +15,16 @@ mul-set-mark : tie.Need-mul-set-mark
 mul-set-mark c = omega (arith, c .before .before .before .pre .0 .small)
 
 mul-set-mark-2 : tie.Need-mul-set-mark-2
-mul-set-mark-2 c = omega (arith, c .before .get-mark .ensures .1, c .before .before .before .pre .1)
+mul-set-mark-2 c = search needs
 
 add-set-mark : tie.Need-add-set-mark
-add-set-mark c = omega (arith, c .before .get-mark .ensures .1, c .before .before .before .pre .1)
+add-set-mark c = search needs
+
+mul-set-mark-3 : tie.Need-mul-set-mark-3
+mul-set-mark-3 c = search needs
+
+add-set-mark-2 : tie.Need-add-set-mark-2
+add-set-mark-2 c = search needs
 
 set-mark-requires : tie.Need-set-mark-requires
 set-mark-requires c κs = (mark-room (c .before .before .before .pre .0), omega (arith, c .before .get-mark .ensures .1, c .before .before .before .pre .1))
@@ -38,6 +44,8 @@ set-top-spec =
     mul-set-mark
     mul-set-mark-2
     add-set-mark
+    mul-set-mark-3
+    add-set-mark-2
     set-mark-requires
     same-length
     returns)

@@ -1,5 +1,4 @@
 -- `tables::mark_at` meets its contract, case by case. Assumes nothing.
-use native.Mathlib.Omega.{arith}
 use mathlib.Core.Path.{sym}
 use Rattle.tables.specs.Tables.{mark-even, mark-odd}
 use borrow.Author.Needs.{needs}
