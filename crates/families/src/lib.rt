@@ -1,0 +1,1 @@
+// No code here: specs/ holds the theory.
