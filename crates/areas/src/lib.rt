@@ -1,41 +1,46 @@
 // Area numbers, the test for a bad triangle, and its raise, from the coordinates at its corners p, q, r with the labels 0, 1, 2.
-// Coordinates within the limit leave each number here room in 64 bits.
+// Coordinates 0 and 1 tell all of it. Those within the limit leave each number here room in 64 bits.
 ghost use mathlib.Core.Path.{_≡_};
 ghost use Prim.Native.Nat.{_*_, _+_, _<_, _≤_};
 ghost use mathlib.Core.Bool.{false};
-ghost use lib.IntN.{natAbs, _-ℤ_};
+ghost use lib.IntN.{natAbs, _-ℤ_, _*ℤ_};
 ghost use Rattle.definitions.specs.Backward.{coordinate};
 ghost use Rattle.definitions.specs.Repair.{limit, maxZ};
 ghost use Rattle.definitions.specs.Refusals.{row10};
-ghost use Rattle.areas.specs.Areas.{productOf, areaOf, badOf, lackOf, raiseOf};
+ghost use Rattle.areas.specs.Areas.{areaOf, badOf, lackOf, sumOf, excessOf, lastOf, raiseOf};
 
-// by how much coordinate c is greater at vertex j than at vertex i
-fn growth(coordinates: &[i64], c: usize, i: usize, j: usize) -> i64
-    requires { ⌜ (c < 3) × (i < 65536) × (j < 65536) × (row10 (now coordinates) ≡ false) ⌝ }
-    ensures is { λ r. ⌜ r ≡ coordinate (now (coordinates .entry)) c j -ℤ coordinate (now (coordinates .entry)) c i ⌝ }
-    ensures small { λ r. ⌜ natAbs r ≤ 2 * limit ⌝ }
+// a coordinate of a vertex
+fn place(coordinates: &[i64], c: usize, i: usize) -> i64
+    requires { ⌜ (c < 3) × (i < 65536) × (row10 (now coordinates) ≡ false) ⌝ }
+    ensures is { λ r. ⌜ r ≡ coordinate (now (coordinates .entry)) c i ⌝ }
+    ensures small { λ r. ⌜ natAbs r ≤ limit ⌝ }
 {
-    let from = whole::coordinate_of(coordinates, c, i);
-    let to = whole::coordinate_of(coordinates, c, j);
-    whole::minus(to, from)
+    whole::coordinate_of(coordinates, c, i)
 }
 
-fn product(coordinates: &[i64], c: usize, e: usize, p: usize, q: usize, r: usize) -> i64
-    requires { ⌜ (c < 3) × (e < 3) × (p < 65536) × (q < 65536) × (r < 65536) × (row10 (now coordinates) ≡ false) ⌝ }
-    ensures is { λ x. ⌜ x ≡ productOf (now (coordinates .entry)) c e p q r ⌝ }
-    ensures small { λ x. ⌜ natAbs x ≤ 4_611_686_009_837_453_316 ⌝ }
+// (a - b) times (c - d)
+fn product(a: i64, b: i64, c: i64, d: i64) -> i64
+    requires { ⌜ (natAbs a ≤ limit) × (natAbs b ≤ limit) × (natAbs c ≤ limit) × (natAbs d ≤ limit) ⌝ }
+    ensures is { λ r. ⌜ r ≡ (a -ℤ b) *ℤ (c -ℤ d) ⌝ }
+    ensures small { λ r. ⌜ natAbs r ≤ 4_611_686_009_837_453_316 ⌝ }
 {
-    let a = growth(coordinates, c, p, q);
-    let b = growth(coordinates, e, p, r);
-    whole::times(a, b)
+    let x = whole::minus(a, b);
+    let y = whole::minus(c, d);
+    whole::times(x, y)
 }
 
 fn area_of(coordinates: &[i64], p: usize, q: usize, r: usize) -> i64
     requires { ⌜ (p < 65536) × (q < 65536) × (r < 65536) × (row10 (now coordinates) ≡ false) ⌝ }
     ensures { λ x. ⌜ x ≡ areaOf (now (coordinates .entry)) p q r ⌝ }
 {
-    let a = product(coordinates, 0, 1, p, q, r);
-    let b = product(coordinates, 1, 0, p, q, r);
+    let p0 = place(coordinates, 0, p);
+    let p1 = place(coordinates, 1, p);
+    let q0 = place(coordinates, 0, q);
+    let q1 = place(coordinates, 1, q);
+    let r0 = place(coordinates, 0, r);
+    let r1 = place(coordinates, 1, r);
+    let a = product(q0, p0, r1, p1);
+    let b = product(q1, p1, r0, p0);
     whole::minus(a, b)
 }
 
@@ -65,14 +70,47 @@ fn lack(coordinates: &[i64], c: usize, i: usize, j: usize, k: usize) -> i64
     whole::minus(greater(y, z), x)
 }
 
+// coordinates 0 and 1 of vertex i together
+fn sum_at(coordinates: &[i64], i: usize) -> i64
+    requires { ⌜ (i < 65536) × (row10 (now coordinates) ≡ false) ⌝ }
+    ensures is { λ r. ⌜ r ≡ sumOf (now (coordinates .entry)) i ⌝ }
+    ensures small { λ r. ⌜ natAbs r ≤ 2 * limit ⌝ }
+{
+    let x = whole::coordinate_of(coordinates, 0, i);
+    let y = whole::coordinate_of(coordinates, 1, i);
+    whole::plus(x, y)
+}
+
+// by how much that is more at vertex j than at vertex i
+fn excess(coordinates: &[i64], i: usize, j: usize) -> i64
+    requires { ⌜ (i < 65536) × (j < 65536) × (row10 (now coordinates) ≡ false) ⌝ }
+    ensures is { λ r. ⌜ r ≡ excessOf (now (coordinates .entry)) i j ⌝ }
+    ensures small { λ r. ⌜ natAbs r ≤ 4 * limit ⌝ }
+{
+    let from = sum_at(coordinates, i);
+    let to = sum_at(coordinates, j);
+    whole::minus(to, from)
+}
+
+// the lack of coordinate 2, told by the two others
+fn last_lack(coordinates: &[i64], p: usize, q: usize, r: usize) -> i64
+    requires { ⌜ (p < 65536) × (q < 65536) × (r < 65536) × (row10 (now coordinates) ≡ false) ⌝ }
+    ensures is { λ x. ⌜ x ≡ lastOf (now (coordinates .entry)) p q r ⌝ }
+    ensures small { λ x. ⌜ natAbs x ≤ 4 * limit ⌝ }
+{
+    let a = excess(coordinates, p, r);
+    let b = excess(coordinates, q, r);
+    greater(a, b)
+}
+
 // 1 and the greatest of the three
 pub fn raise_of(coordinates: &[i64], p: usize, q: usize, r: usize) -> i64
     requires { ⌜ (p < 65536) × (q < 65536) × (r < 65536) × (row10 (now coordinates) ≡ false) ⌝ }
     ensures is { λ x. ⌜ x ≡ raiseOf (now (coordinates .entry)) p q r ⌝ }
-    ensures small { λ x. ⌜ natAbs x ≤ 2 * limit + 1 ⌝ }
+    ensures small { λ x. ⌜ natAbs x ≤ 4 * limit + 1 ⌝ }
 {
     let a = lack(coordinates, 0, p, q, r);
     let b = lack(coordinates, 1, q, p, r);
-    let c = lack(coordinates, 2, r, p, q);
+    let c = last_lack(coordinates, p, q, r);
     whole::plus(1, greater(a, greater(b, c)))
 }

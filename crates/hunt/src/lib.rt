@@ -1,8 +1,8 @@
-// The next bad triangle, looked for in the order of the numbers. After a raise only triangles that reach over several regions are looked at again.
+// The next bad triangle, looked for in the order of the numbers. After a raise, of those passed only the ones on the raised triangle's three walks are looked at
+// again.
 use laying::part0;
 use laying::part1;
 use laying::part2;
-use tables::get_mark;
 use tables::get_op;
 ghost use mathlib.Core.Path.{_≡_};
 ghost use mathlib.Core.Bool.{false};
@@ -11,8 +11,8 @@ ghost use lib.IntN.{natAbs};
 ghost use Rattle.definitions.specs.Repair.{limit};
 ghost use Rattle.definitions.specs.Refusals.{row10};
 ghost use Rattle.tables.specs.Tables.{view};
-ghost use Rattle.raising.specs.Hunt.{badAt, raiseAt, split, splitBad, Found};
-ghost use Rattle.hunt.specs.Searches.{Next};
+ghost use Rattle.raising.specs.Hunt.{badAt, raiseAt, nextOn, Found, Next};
+ghost use Rattle.hunt.specs.Searches.{Lower, Lowest};
 
 // triangle t is flat or turned
 fn is_bad(s: &[i64], coordinates: &[i64], t: usize) -> bool
@@ -27,35 +27,10 @@ fn is_bad(s: &[i64], coordinates: &[i64], t: usize) -> bool
 pub fn raise_at(s: &[i64], coordinates: &[i64], t: usize) -> i64
     requires { ⌜ (t < 65536) × (row10 (now coordinates) ≡ false) ⌝ }
     ensures is { λ x. ⌜ x ≡ raiseAt (view (now (s .entry))) (now (coordinates .entry)) t ⌝ }
-    ensures small { λ x. ⌜ natAbs x ≤ 2 * limit + 1 ⌝ }
+    ensures small { λ x. ⌜ natAbs x ≤ 4 * limit + 1 ⌝ }
 {
     let w = get_op(s, 3 * t + 1);
     areas::raise_of(coordinates, part0(w), part1(w), part2(w))
-}
-
-// its corners do not all lie in one region
-fn is_split(s: &[i64], t: usize) -> bool
-    requires { ⌜ t < 65536 ⌝ }
-    ensures { λ x. ⌜ x ≡ split (view (now (s .entry))) t ⌝ }
-{
-    let w = get_op(s, 3 * t + 1);
-    let a = get_mark(s, 2 * part0(w));
-    let b = get_mark(s, 2 * part1(w));
-    if b == a {
-        let c = get_mark(s, 2 * part2(w));
-        return c != a;
-    }
-    true
-}
-
-fn is_split_bad(s: &[i64], coordinates: &[i64], t: usize) -> bool
-    requires { ⌜ (t < 65536) × (row10 (now coordinates) ≡ false) ⌝ }
-    ensures { λ x. ⌜ x ≡ splitBad (view (now (s .entry))) (now (coordinates .entry)) t ⌝ }
-{
-    if is_split(s, t) {
-        return is_bad(s, coordinates, t);
-    }
-    false
 }
 
 // the first bad triangle from `from` on, or `to`
@@ -73,26 +48,83 @@ pub fn first_bad(s: &[i64], coordinates: &[i64], from: usize, to: usize) -> usiz
     to
 }
 
-// the first triangle from `from` on that is bad and reaches over several regions, or `to`
-fn first_split(s: &[i64], coordinates: &[i64], from: usize, to: usize) -> usize
-    requires { ⌜ (from ≤ to) × (to < 65536) × (row10 (now coordinates) ≡ false) ⌝ }
-    ensures { λ r. ⌜ Found (splitBad (view (now (s .entry))) (now (coordinates .entry))) from to r ⌝ }
+// the next triangle on the walk of colour c; a walk that has come to the outer triangle stays there
+fn next_on(s: &[i64], c: usize, t: usize) -> usize
+    requires { ⌜ t < 65536 ⌝ }
+    ensures is { λ r. ⌜ r ≡ nextOn (view (now (s .entry))) c t ⌝ }
+    ensures small { λ r. ⌜ r < 65536 ⌝ }
 {
-    let mut i = from;
-    while i < to {
-        if is_split_bad(s, coordinates, i) {
-            return i;
-        }
-        i += 1;
+    if t == 0 {
+        return 0;
     }
-    to
+    if c == 2 {
+        return part0(get_op(s, 3 * t));
+    }
+    let w = get_op(s, 3 * t + 2);
+    if c == 0 {
+        return part0(w);
+    }
+    part1(w)
 }
 
-// the first bad triangle after a raise of t, below which none was bad; `to`, if there is none. Those below `full` are not looked at.
+// i, if it is bad, not below `full`, and below `low`; `low`, if not. `full` and `top`, which stay as they are during a search, tell most of them apart without
+// waiting for `low`.
+fn lower(s: &[i64], coordinates: &[i64], full: usize, top: usize, i: usize, low: usize) -> usize
+    requires { ⌜ (i < 65536) × (low ≤ top) × (row10 (now coordinates) ≡ false) ⌝ }
+    ensures { λ r. ⌜ Lower (badAt (view (now (s .entry))) (now (coordinates .entry))) full i low r ⌝ }
+{
+    if top <= i {
+        return low;
+    }
+    if i < full {
+        return low;
+    }
+    if is_bad(s, coordinates, i) {
+        if i < low {
+            return i;
+        }
+        return low;
+    }
+    low
+}
+
+// the lowest-numbered bad triangle on the three walks from t on, not below `full`; t, if there is none below it. The walks are followed together, and the reads
+// for the next step come first, for a step waits only for the one before it on the same walk.
+fn lowest(s: &[i64], coordinates: &[i64], steps: usize, full: usize, t: usize) -> usize
+    requires { ⌜ (t < 65536) × (row10 (now coordinates) ≡ false) ⌝ }
+    ensures { λ r. ⌜ Lowest (view (now (s .entry))) (badAt (view (now (s .entry))) (now (coordinates .entry))) steps full t r ⌝ }
+{
+    if full == t {
+        return t;
+    }
+    let mut k = steps;
+    let mut a = t;
+    let mut b = t;
+    let mut d = t;
+    let mut r = t;
+    while 0 < k {
+        if a + b + d == 0 {
+            return r;
+        }
+        let next_a = next_on(s, 0, a);
+        let next_b = next_on(s, 1, b);
+        let next_d = next_on(s, 2, d);
+        r = lower(s, coordinates, full, t, a, r);
+        r = lower(s, coordinates, full, t, b, r);
+        r = lower(s, coordinates, full, t, d, r);
+        a = next_a;
+        b = next_b;
+        d = next_d;
+        k -= 1;
+    }
+    r
+}
+
+// the first bad triangle after a raise of t, below which none was bad; `to`, if there is none. Those below `full` are not looked at. There are `to` triangles.
 pub fn next_bad(s: &[i64], coordinates: &[i64], full: usize, t: usize, to: usize) -> usize
-    requires { ⌜ (full ≤ t) × (t ≤ to) × (to < 65536) × (row10 (now coordinates) ≡ false) ⌝ }
+    requires { ⌜ (full ≤ t) × (0 < full) × (t ≤ to) × (to < 65536) × (row10 (now coordinates) ≡ false) ⌝ }
     ensures { λ r. ⌜ Next (view (now (s .entry))) (now (coordinates .entry)) full t to r ⌝ }
 {
-    let low = first_split(s, coordinates, full, t);
+    let low = lowest(s, coordinates, to, full, t);
     first_bad(s, coordinates, low, to)
 }

@@ -1,5 +1,5 @@
 -- How the code meets the words that a raise reads: their parts, and the two loops that lay them out. Assumes nothing.
-use Prim.Native.Nat.{ℕ, zero, suc, _+_, _-_, _*_, _/_, _%_, _≤_, _<_}
+use Prim.Native.Nat.{ℕ, _+_, _-_, _*_, _/_, _≤_, _<_}
 use mathlib.Core.Path.{_≡_, refl, sym, ap, _∙_}
 use mathlib.Core.Logic.{_≢_, inl, inr}
 use mathlib.Core.Bool.{true, false}
@@ -12,10 +12,9 @@ use lib.IntN.{ℤ}
 use borrow.Author.Tests.{eq-eqb, ne-eqb}
 use Rattle.definitions.specs.Mesh.{tri, next, prev, org, tip}
 use Rattle.laws.specs.Lists.{tested}
-use Rattle.tables.specs.Tables.{Tables, view, setOp, setMark, upd-at, upd-other}
+use Rattle.tables.specs.Tables.{Tables, view, setHead, setCount, setOp, setMark, upd-at, upd-other}
 use Rattle.stage.specs.Stage.{across, tag}
-use Rattle.raising.specs.Work.{apexOf, into}
-use Rattle.raising.specs.Laid.{four, sideOf, wayOf, cornersOf, leaverOf, Laid, Same}
+use Rattle.raising.specs.Laid.{four, apexOf, into, rimmed, sideOf, wayOf, cornersOf, leaverOf, linesOf, Laid, Lined}
 
 -- ---- the corner with label 2
 
@@ -82,9 +81,20 @@ pub leaver-word-is : (ts : List ℕ) (T : Tables) (k v e a f b w : ℕ) → v �
 unfolding leaverOf
 leaver-word-is ts T k v e a f b w ev ee ea ef eb ew = rw (ew, ea, ee, eb, ef, ev)
 
-pub both-words : (ts : List ℕ) (t : ℕ) (T T′ T″ : Tables) (w c : ℕ) → w ≡ wayOf ts T t → c ≡ cornersOf ts T t → T′ ≡ setOp (3 * t) w T → T″ ≡ setOp (3 * t + 1) c T′ →
-    T″ ≡ setOp (3 * t + 1) (cornersOf ts T t) (setOp (3 * t) (wayOf ts T t) T)
-both-words ts t T T′ T″ w c ew ec e f = rw (f, e, ew, ec)
+pub line-word-is : (T : Tables) (t g d a b w : ℕ) → g ≡ apexOf (T .op) t → d ≡ prev g → a ≡ across (T .op) d → b ≡ across (T .op) g → w ≡ four (a / 3) (b / 3) 0 0 →
+    w ≡ linesOf T t
+unfolding linesOf tri
+line-word-is T t g d a b w eg ed ea eb ew = rw (ew, ea, ed, eb, eg)
+
+-- the words of triangle t in their places
+unfoldable pub setWords : List ℕ → ℕ → Tables → Tables
+unfolding wayOf cornersOf linesOf setOp
+setWords ts t T = setOp (3 * t + 2) (linesOf T t) (setOp (3 * t + 1) (cornersOf ts T t) (setOp (3 * t) (wayOf ts T t) T))
+
+pub words-set : (ts : List ℕ) (t : ℕ) (T T₁ T₂ T₃ : Tables) (w c l : ℕ) → w ≡ wayOf ts T t → c ≡ cornersOf ts T t → l ≡ linesOf T t →
+    T₁ ≡ setOp (3 * t) w T → T₂ ≡ setOp (3 * t + 1) c T₁ → T₃ ≡ setOp (3 * t + 2) l T₂ → T₃ ≡ setWords ts t T
+unfolding setWords
+words-set ts t T T₁ T₂ T₃ w c l ew ec el e₁ e₂ e₃ = rw (e₃, e₂, e₁, ew, ec, el)
 
 -- ---- what is asked of scratch
 
@@ -94,12 +104,25 @@ pub record Layable (n : ℕ) (s : List ℤ) : Type 0 where
   pub room : 10 * n ≤ length s
   pub low : (k : ℕ) → k < n - 2 → view s .mark (2 * k + 1) < 65536
 
+-- of other tables as long, with the same vertices that left
+pub layable-again : (n : ℕ) (s s′ : List ℤ) → Layable n s → length s′ ≡ length s → view s′ .mark ≡ view s .mark → Layable n s′
+layable-again n s s′ L e m =
+    record { some = L .some; few = L .few; room = omega (arith, L .room); low = λ k h. omega (arith, ap (λ (f : ℕ → ℕ). f (2 * k + 1)) m, L .low k h) }
+
+rimmed-mark : (ts : List ℕ) (T : Tables) → rimmed ts T .mark ≡ T .mark
+unfolding rimmed setHead setCount
+rimmed-mark ts T = refl
+
+pub layable-rimmed : (n : ℕ) (ts : List ℕ) (s s′ : List ℤ) → Layable n s → length s′ ≡ length s → view s′ ≡ rimmed ts (view s) → Layable n s′
+layable-rimmed n ts s s′ L e v = layable-again n s s′ L e (ap (λ (T : Tables). T .mark) v ∙ rimmed-mark ts (view s))
+
 -- ---- the triangles
 
 -- the words of the inner triangles below m are laid out, those of the others are as they were
 pub record Ways (n : ℕ) (ts : List ℕ) (T S : Tables) (m : ℕ) : Type 0 where
   pub ways : (t : ℕ) → 0 < t → t < m → S .op (3 * t) ≡ wayOf ts T t
   pub corners : (t : ℕ) → 0 < t → t < m → S .op (3 * t + 1) ≡ cornersOf ts T t
+  pub lines : (t : ℕ) → 0 < t → t < m → S .op (3 * t + 2) ≡ linesOf T t
   pub rest : (d : ℕ) → 3 * m ≤ d → S .op d ≡ T .op d
   pub head : S .head ≡ T .head
   pub count : S .count ≡ T .count
@@ -107,7 +130,15 @@ pub record Ways (n : ℕ) (ts : List ℕ) (T S : Tables) (m : ℕ) : Type 0 wher
 
 pub ways-none : (n : ℕ) (ts : List ℕ) (T : Tables) → Ways n ts T T 1
 ways-none n ts T =
-    record { ways = λ t p q. absurd (omega arith); corners = λ t p q. absurd (omega arith); rest = λ d h. refl; head = refl; count = refl; mark = refl }
+    record {
+      ways = λ t p q. absurd (omega arith);
+      corners = λ t p q. absurd (omega arith);
+      lines = λ t p q. absurd (omega arith);
+      rest = λ d h. refl;
+      head = refl;
+      count = refl;
+      mark = refl;
+    }
 
 -- the corner is one of its triangle
 apex-tri : (w : ℕ → ℕ) (t : ℕ) → tri (apexOf w t) ≡ t
@@ -124,13 +155,13 @@ module _ (ts : List ℕ) (T S : Tables) (t : ℕ) (rest : (d : ℕ) → 3 * t �
   unfolding apexOf tag
   same-apex = rw (rest (3 * t) (omega arith), rest (3 * t + 1) (omega arith))
 
-  apex-least : 3 * t ≤ next (apexOf (T .op) t)
-  unfolding tri next
+  apex-least : (3 * t ≤ apexOf (T .op) t) × (3 * t ≤ next (apexOf (T .op) t)) × (3 * t ≤ prev (apexOf (T .op) t))
+  unfolding tri next prev
   apex-least = omega (arith, apex-tri (T .op) t)
 
   same-into : into (S .op) t ≡ into (T .op) t
   unfolding into across
-  same-into = rw (same-apex, rest (next (apexOf (T .op) t)) apex-least)
+  same-into = rw (same-apex, rest (next (apexOf (T .op) t)) (apex-least .1))
 
   same-way : wayOf ts S t ≡ wayOf ts T t
   unfolding wayOf sideOf
@@ -140,27 +171,42 @@ module _ (ts : List ℕ) (T S : Tables) (t : ℕ) (rest : (d : ℕ) → 3 * t �
   unfolding cornersOf
   same-corners = rw same-apex
 
+  same-lines : linesOf S t ≡ linesOf T t
+  unfolding linesOf across
+  same-lines = let g = apexOf (T .op) t in rw (same-apex, rest g (apex-least .0), rest (prev g) (apex-least .2))
+
 module _ (n : ℕ) (ts : List ℕ) (T S : Tables) (t : ℕ) (W : Ways n ts T S t) where
-  pub ways-next : (S′ : Tables) → 0 < t → S′ ≡ setOp (3 * t + 1) (cornersOf ts S t) (setOp (3 * t) (wayOf ts S t) S) → Ways n ts T S′ (t + 1)
-  unfolding setOp
-  ways-next S′ h e =
+  pub ways-next : (S′ : Tables) → S′ ≡ setWords ts t S → Ways n ts T S′ (t + 1)
+  unfolding setWords setOp
+  ways-next S′ e =
       let w = wayOf ts S t in
       let c = cornersOf ts S t in
+      let l = linesOf S t in
       rw e
       (record {
         ways = λ i p q.
-            upd-other (3 * t + 1) (3 * i) c _ (omega arith)
+            upd-other (3 * t + 2) (3 * i) l _ (omega arith) ∙ upd-other (3 * t + 1) (3 * i) c _ (omega arith)
             ∙ elim (ℕ-discrete i t) [
               | yes d ↦ upd-at (3 * t) (3 * i) w (S .op) (omega arith) ∙ same-way ts T S t (W .rest) (W .head) (W .count) ∙ ap (wayOf ts T) (sym d)
               | no d ↦ upd-other (3 * t) (3 * i) w (S .op) (omega arith) ∙ W .ways i p (omega arith)
             ];
         corners = λ i p q.
-            elim (ℕ-discrete i t) [
+            upd-other (3 * t + 2) (3 * i + 1) l _ (omega arith)
+            ∙ elim (ℕ-discrete i t) [
               | yes d ↦ upd-at (3 * t + 1) (3 * i + 1) c _ (omega arith) ∙ same-corners ts T S t (W .rest) (W .head) (W .count) ∙ ap (cornersOf ts T) (sym d)
               | no d ↦
                   upd-other (3 * t + 1) (3 * i + 1) c _ (omega arith) ∙ upd-other (3 * t) (3 * i + 1) w (S .op) (omega arith) ∙ W .corners i p (omega arith)
             ];
-        rest = λ d h. upd-other (3 * t + 1) d c _ (omega arith) ∙ upd-other (3 * t) d w (S .op) (omega arith) ∙ W .rest d (omega arith);
+        lines = λ i p q.
+            elim (ℕ-discrete i t) [
+              | yes d ↦ upd-at (3 * t + 2) (3 * i + 2) l _ (omega arith) ∙ same-lines ts T S t (W .rest) (W .head) (W .count) ∙ ap (linesOf T) (sym d)
+              | no d ↦
+                  upd-other (3 * t + 2) (3 * i + 2) l _ (omega arith) ∙ upd-other (3 * t + 1) (3 * i + 2) c _ (omega arith)
+                  ∙ upd-other (3 * t) (3 * i + 2) w (S .op) (omega arith) ∙ W .lines i p (omega arith)
+            ];
+        rest = λ d h.
+            upd-other (3 * t + 2) d l _ (omega arith) ∙ upd-other (3 * t + 1) d c _ (omega arith) ∙ upd-other (3 * t) d w (S .op) (omega arith)
+            ∙ W .rest d (omega arith);
         head = W .head;
         count = W .count;
         mark = W .mark;
@@ -213,5 +259,5 @@ module _ (n : ℕ) (ts : List ℕ) (T T₁ T₂ : Tables) (W : Ways n ts T T₁ 
         leavers = λ k h. L .leavers k h ∙ same-leaver ts T T₁ k (ap (λ (f : ℕ → ℕ). f (2 * k + 1)) (W .mark)) (W .head) (W .count);
       }
 
-  pub both-same : Same T₂ T
-  both-same = record { even = λ v. L .even v ∙ ap (λ (f : ℕ → ℕ). f (2 * v)) (W .mark) }
+  pub both-lined : Lined n T T₂
+  both-lined = record { lines = λ t p q. ap (λ (f : ℕ → ℕ). f (3 * t + 2)) (L .op) ∙ W .lines t p q }

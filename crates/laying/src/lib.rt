@@ -1,21 +1,23 @@
-// The words that a raise reads, laid out in scratch over the tables of the labels stage: one for each inner triangle's walk, one for its corners, and one for
-// each vertex that left. Four numbers stand in a word, 16 bits for each of the first three.
+// The words that a raise reads, laid out in scratch over the tables of the labels stage: one for each inner triangle's colour-2 walk, one for its corners, one
+// for its two other walks, and one for each vertex that left. Four numbers stand in a word, 16 bits for each of the first three.
 use tables::after;
 use tables::before;
 use tables::end;
 use tables::get_count;
 use tables::get_head;
 use tables::get_mark;
+use tables::set_count;
+use tables::set_head;
 use tables::set_mark;
 use tables::set_op;
 use tables::vertex;
 ghost use mathlib.Core.Path.{_≡_};
 ghost use Prim.Native.Nat.{_+_, _-_, _*_, _<_, _≤_, _^_};
 ghost use lib.ListN.{length};
-ghost use Rattle.tables.specs.Tables.{view, setOp, setMark};
-ghost use Rattle.raising.specs.Work.{apexOf, into};
-ghost use Rattle.raising.specs.Laid.{four, part0, part1, part2, part3, sideOf, wayOf, cornersOf, leaverOf, Laid, Same};
-ghost use Rattle.laying.specs.Turns.{Layable, Ways, Leavers};
+ghost use Rattle.definitions.specs.Mesh.{org};
+ghost use Rattle.tables.specs.Tables.{vertexIn, view, setMark};
+ghost use Rattle.raising.specs.Laid.{four, part0, part1, part2, part3, apexOf, into, rimmed, sideOf, wayOf, cornersOf, leaverOf, linesOf, Laid, Lined};
+ghost use Rattle.laying.specs.Turns.{setWords, Layable, Ways, Leavers};
 
 // the parts of a word
 pub fn part0(w: usize) -> usize
@@ -46,7 +48,7 @@ pub fn part3(w: usize) -> usize
 }
 
 // a word of four parts
-fn four(a: usize, b: usize, c: usize, d: usize) -> usize
+pub fn four(a: usize, b: usize, c: usize, d: usize) -> usize
     requires { ⌜ (a < 65536) × (b < 65536) × (c < 65536) × (d < 4) ⌝ }
     ensures is { λ r. ⌜ r ≡ four a b c d ⌝ }
     ensures small { λ r. ⌜ r < 2 ^ 63 ⌝ }
@@ -124,6 +126,17 @@ fn corner_word(triangles: &[u16], s: &[i64], t: usize) -> usize
     four(p, q, r, 0)
 }
 
+fn line_word(s: &[i64], t: usize) -> usize
+    requires { ⌜ t < 65536 ⌝ }
+    ensures is { λ r. ⌜ r ≡ linesOf (view (now (s .entry))) t ⌝ }
+    ensures small { λ r. ⌜ r < 2 ^ 63 ⌝ }
+{
+    let g = apex(s, t);
+    let a = stage::across(s, before(g));
+    let b = stage::across(s, g);
+    four(a / 3, b / 3, 0, 0)
+}
+
 fn leaver_word(triangles: &[u16], s: &[i64], k: usize) -> usize
     requires { ⌜ (k < 65536) × (view (now s) .mark (2 * k + 1) < 65536) ⌝ }
     ensures is { λ r. ⌜ r ≡ leaverOf (now (triangles .entry)) (view (now (s .entry))) k ⌝ }
@@ -135,15 +148,17 @@ fn leaver_word(triangles: &[u16], s: &[i64], k: usize) -> usize
     four(v, left, right, 0)
 }
 
-// the two words of triangle t
+// the three words of triangle t
 fn lay_triangle(triangles: &[u16], s: &mut [i64], t: usize)
     requires { ⌜ (t < 65536) × (5 * t + 10 ≤ length (now s)) ⌝ }
-    ensures { λ r. ⌜ view (now (s .exit)) ≡ setOp (3 * t + 1) (cornersOf (now (triangles .entry)) (view (now (s .entry))) t) (setOp (3 * t) (wayOf (now (triangles .entry)) (view (now (s .entry))) t) (view (now (s .entry)))) ⌝ }
+    ensures { λ r. ⌜ view (now (s .exit)) ≡ setWords (now (triangles .entry)) t (view (now (s .entry))) ⌝ }
 {
     let w = way_word(triangles, s, t);
     let c = corner_word(triangles, s, t);
+    let l = line_word(s, t);
     set_op(s, 3 * t, w);
     set_op(s, 3 * t + 1, c);
+    set_op(s, 3 * t + 2, l);
 }
 
 fn lay_triangles(n: usize, triangles: &[u16], s: &mut [i64])
@@ -177,12 +192,22 @@ fn lay_leavers(n: usize, triangles: &[u16], s: &mut [i64])
     }
 }
 
+// v0 and v1, which did not leave, get the outer triangle's dart between them
+fn rim(triangles: &[u16], s: &mut [i64])
+    requires { ⌜ vertexIn (length (now s)) (org (now triangles) 0) × vertexIn (length (now s)) (org (now triangles) 2) ⌝ }
+    ensures { λ r. ⌜ view (now (s .exit)) ≡ rimmed (now (triangles .entry)) (view (now (s .entry))) ⌝ }
+{
+    set_count(s, vertex(triangles, 0), 2);
+    set_head(s, vertex(triangles, 2), 2);
+}
+
 // all of them
 pub fn lay(n: usize, triangles: &[u16], s: &mut [i64])
-    requires { ⌜ Layable n (now s) ⌝ }
-    ensures laid { λ r. ⌜ Laid n (now (triangles .entry)) (view (now (s .entry))) (view (now (s .exit))) ⌝ }
-    ensures same { λ r. ⌜ Same (view (now (s .exit))) (view (now (s .entry))) ⌝ }
+    requires { ⌜ Layable n (now s) × (org (now triangles) 0 < n) × (org (now triangles) 2 < n) ⌝ }
+    ensures laid { λ r. ⌜ Laid n (now (triangles .entry)) (rimmed (now (triangles .entry)) (view (now (s .entry)))) (view (now (s .exit))) ⌝ }
+    ensures lined { λ r. ⌜ Lined n (rimmed (now (triangles .entry)) (view (now (s .entry)))) (view (now (s .exit))) ⌝ }
 {
+    rim(triangles, s);
     lay_triangles(n, triangles, s);
     lay_leavers(n, triangles, s);
 }

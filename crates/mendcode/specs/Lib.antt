@@ -1,5 +1,5 @@
 -- What the code of repair's loop asks and gives.
-pub mod Growing
 pub mod Trying
+pub mod Sweeps
 pub mod Told
 pub mod Turns

@@ -8,6 +8,7 @@ use Rattle.definitions.specs.Forward.{forward}
 use Rattle.definitions.specs.Repair.{repair}
 use Rattle.definitions.specs.Answers.{Answer, done, refused, after}
 use Rattle.definitions.specs.Refusals.{repairAnswer}
+use Rattle.raising.specs.Raised.{Drawn}
 use Rattle.mendcode.specs.declared.Ended.{Ended}
 use Rattle.mendcode.specs.declared.Ended.the-variants.{Mended, Stopped}
 
@@ -15,6 +16,12 @@ use Rattle.mendcode.specs.declared.Ended.the-variants.{Mended, Stopped}
 abbrev pub told : Ended → Answer ℕ
 told (Mended count) = done count
 told (Stopped count) = refused (after count)
+
+-- the answer and the weights are those of the definition, and coordinates 0 and 1 are drawn
+pub record Halts (n : ℕ) (ts ls : List ℕ) (ws₀ ws bs : List ℤ) (r : Ended) : Type 0 where
+  pub answer : told r ≡ repairAnswer (repair n ts ls ws₀ .ending) (length (repair n ts ls ws₀ .raises))
+  pub weights : ws ≡ repair n ts ls ws₀ .weights
+  pub drawn : Drawn n ts ls (repair n ts ls ws₀ .weights) bs
 
 -- the answer, the weights and the coordinates are those of the definition
 pub record Ends (n : ℕ) (ts ls : List ℕ) (ws₀ ws bs : List ℤ) (r : Ended) : Type 0 where

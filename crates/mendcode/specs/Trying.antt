@@ -1,5 +1,5 @@
 -- What one raise asks and gives, as the code makes it, and what the whole loop asks. Assumes nothing.
-use Prim.Native.Nat.{ℕ, suc, _+_, _-_, _*_, _/_, _≤_, _<_}
+use Prim.Native.Nat.{ℕ, suc, _+_, _-_, _*_, _≤_, _<_}
 use mathlib.Core.Path.{_≡_, refl, sym, ap, _∙_}
 use mathlib.Core.Bool.{false}
 use mathlib.Core.List.{List}
@@ -7,17 +7,15 @@ use native.Mathlib.Omega.{arith}
 use lib.ListN.{length, getD, set}
 use lib.IntN.{ℤ, pos, natAbs, _+ℤ_}
 use Rattle.definitions.specs.Words.{totalAbs}
-use Rattle.definitions.specs.Mesh.{weightsLength, org}
+use Rattle.definitions.specs.Mesh.{weightsLength}
 use Rattle.definitions.specs.Forward.{weight, forward}
 use Rattle.definitions.specs.Repair.{limit, addTo}
 use Rattle.definitions.specs.Refusals.{row10}
 use Rattle.laws.specs.Lists.{getD-in, totalAbs-in, totalAbs-set}
 use Rattle.tables.specs.Tables.{view}
-use Rattle.raising.specs.Regions.{Grown}
-use Rattle.raising.specs.Laid.{found}
 use Rattle.raising.specs.Hunt.{raiseAt}
 use Rattle.raising.specs.Ready.{Ready}
-use Rattle.regions.specs.Turns.{Findable}
+use Rattle.sweep.specs.Walks.{Sweepable, Moved}
 
 -- ---- weights
 
@@ -58,32 +56,27 @@ sum-is ws t sum x w y old new S ew ey eo en =
 -- ---- one raise
 
 pub record Raisable (n : ℕ) (ts : List ℕ) (ws bs s : List ℤ) (t sum : ℕ) : Type 0 where
-  pub few : n ≤ 4096
   pub positive : 0 < t
   pub inside : t ≤ length ws
   pub low : t < 65536
   pub summed : sum ≡ totalAbs ws
   pub light : totalAbs ws ≤ limit
-  pub long : length bs ≡ 3 * n
   pub within : row10 bs ≡ false
-  pub findable : Findable n ts s t
-  pub below : (v : ℕ) → v < n → found ts n t (view s) .mark (2 * v) < 3
+  pub small : natAbs (raiseAt (view s) bs t) ≤ 2 * limit + 1
+  pub sweepable : Sweepable n ts s bs t (raiseAt (view s) bs t)
 
 -- r is the sum with the raise; past the limit nothing has changed, otherwise the raise is made
-pub record Tried (n : ℕ) (ts : List ℕ) (ws bs s ws′ bs′ s′ : List ℤ) (t r : ℕ) : Type 0 where
+pub record Tried (n : ℕ) (ts : List ℕ) (s ws bs ws′ bs′ : List ℤ) (t r : ℕ) : Type 0 where
   pub sum : r ≡ totalAbs (addTo ws t (raiseAt (view s) bs t))
-  pub kept : limit < r → (ws′ ≡ ws) × (bs′ ≡ bs) × (s′ ≡ s)
-  pub made : r ≤ limit →
-      (ws′ ≡ addTo ws t (raiseAt (view s) bs t)) × (view s′ ≡ found ts n t (view s))
-      × Grown n (λ v. view s′ .mark (2 * v)) (raiseAt (view s) bs t) bs bs′
+  pub kept : limit < r → (ws′ ≡ ws) × (bs′ ≡ bs)
+  pub made : r ≤ limit → (ws′ ≡ addTo ws t (raiseAt (view s) bs t)) × Moved n ts (view s) t (raiseAt (view s) bs t) bs bs′
 
-module _ (n : ℕ) (ts : List ℕ) (ws bs s : List ℤ) (t r : ℕ) (x : ℤ) (ex : x ≡ raiseAt (view s) bs t) (er : r ≡ totalAbs (addTo ws t x)) where
-  pub tried-kept : limit < r → Tried n ts ws bs s ws bs s t r
-  tried-kept h = record { sum = rw ex at er; kept = λ l. (refl, refl, refl); made = λ l. absurd (omega arith) }
+module _ (n : ℕ) (ts : List ℕ) (s ws bs : List ℤ) (t r : ℕ) (x : ℤ) (ex : x ≡ raiseAt (view s) bs t) (er : r ≡ totalAbs (addTo ws t x)) where
+  pub tried-kept : limit < r → Tried n ts s ws bs ws bs t r
+  tried-kept h = record { sum = rw ex at er; kept = λ l. (refl, refl); made = λ l. absurd (omega arith) }
 
-  pub tried-made : (ws′ bs′ s′ : List ℤ) → r ≤ limit → ws′ ≡ addTo ws t x → view s′ ≡ found ts n t (view s) → Grown n (λ v. view s′ .mark (2 * v)) x bs bs′ →
-      Tried n ts ws bs s ws′ bs′ s′ t r
-  tried-made ws′ bs′ s′ h ew es G = record { sum = rw ex at er; kept = λ l. absurd (omega arith); made = λ l. (rw ex at ew, es, rw ex at G) }
+  pub tried-made : (ws′ bs′ : List ℤ) → r ≤ limit → ws′ ≡ addTo ws t x → Moved n ts (view s) t x bs bs′ → Tried n ts s ws bs ws′ bs′ t r
+  tried-made ws′ bs′ h ew G = record { sum = rw ex at er; kept = λ l. absurd (omega arith); made = λ l. (rw ex at ew, rw ex at G) }
 
 -- ---- the whole loop
 

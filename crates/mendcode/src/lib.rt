@@ -1,6 +1,6 @@
-// The loop of repair on a mesh whose trace is laid out in scratch. The coordinates lent are those of the weights all the time: a raise adds to one coordinate of
-// each vertex, by its region. The sum of the weights' absolute values is kept up to date, so that the raise that would break 9 is not made.
-use tables::get_mark;
+// The loop of repair on a mesh whose words are laid out in scratch. Of the lent coordinates 0 and 1 are those of the weights all the time: a raise moves the
+// families on the way of its triangle's walk. The third is written at the end. The sum of the weights' absolute values is kept up to date, so that the raise that
+// would break 9 is not made.
 ghost use mathlib.Core.Path.{_≡_};
 ghost use mathlib.Core.List.{List};
 ghost use Prim.Native.Nat.{ℕ, _+_, _-_, _*_, _<_, _≤_};
@@ -9,13 +9,10 @@ ghost use lib.IntN.{pos, natAbs, _+ℤ_};
 ghost use Rattle.definitions.specs.Words.{totalAbs};
 ghost use Rattle.definitions.specs.Forward.{forward};
 ghost use Rattle.definitions.specs.Repair.{limit, addTo};
-ghost use Rattle.tables.specs.Tables.{view};
-ghost use Rattle.raising.specs.Regions.{Grown};
 ghost use Rattle.raising.specs.Ready.{Ready};
 ghost use Rattle.raising.specs.Mends.{Passed};
-ghost use Rattle.mendcode.specs.Growing.{Growable};
 ghost use Rattle.mendcode.specs.Trying.{Summable, Raisable, Tried, Mendable};
-ghost use Rattle.mendcode.specs.Told.{Ends};
+ghost use Rattle.mendcode.specs.Told.{Halts, Ends};
 
 // How the loop ended, with the count of raises: no triangle is bad any more, or the next raise would break 9.
 pub enum Ended {
@@ -30,19 +27,6 @@ fn add_at(numbers: &mut [i64], i: usize, x: i64)
 {
     let a = whole::at(numbers, i);
     whole::put(numbers, i, whole::plus(a, x));
-}
-
-// x more in the coordinate of each vertex that is its region
-fn grow(n: usize, s: &[i64], coordinates: &mut [i64], x: i64)
-    requires { ⌜ Growable n (now s) (now coordinates) x ⌝ }
-    ensures { λ r. ⌜ Grown n (λ v. view (now (s .entry)) .mark (2 * v)) x (now (coordinates .entry)) (now (coordinates .exit)) ⌝ }
-{
-    let mut v = 0;
-    while v < n {
-        let c = get_mark(s, 2 * v);
-        add_at(coordinates, 3 * v + c, x);
-        v += 1;
-    }
 }
 
 // the sum of the absolute values once the weight of triangle t is raised by x
@@ -63,12 +47,12 @@ fn try_raise(
     triangles: &[u16],
     weights: &mut [i64],
     coordinates: &mut [i64],
-    s: &mut [i64],
+    s: &[i64],
     t: usize,
     sum: usize,
 ) -> usize
     requires { ⌜ Raisable n (now triangles) (now weights) (now coordinates) (now s) t sum ⌝ }
-    ensures { λ r. ⌜ Tried n (now (triangles .entry)) (now (weights .entry)) (now (coordinates .entry)) (now (s .entry)) (now (weights .exit)) (now (coordinates .exit)) (now (s .exit)) t r ⌝ }
+    ensures { λ r. ⌜ Tried n (now (triangles .entry)) (now (s .entry)) (now (weights .entry)) (now (coordinates .entry)) (now (weights .exit)) (now (coordinates .exit)) t r ⌝ }
 {
     let x = hunt::raise_at(s, coordinates, t);
     let new = sum_after(weights, t, sum, x);
@@ -76,8 +60,7 @@ fn try_raise(
         return new;
     }
     add_at(weights, t - 1, x);
-    regions::find(n, triangles, s, t);
-    grow(n, s, coordinates, x);
+    sweep::sweep(n, triangles, s, coordinates, t, x);
     new
 }
 
@@ -91,17 +74,17 @@ fn passed(full: usize, t: usize) -> usize
 
 // While some inner triangle is bad, the lowest-numbered one is raised. An extended triangle stays so; those that all are, up to the first that is not, are
 // not looked at again.
-pub fn mend(
+fn raise_all(
     n: usize,
     triangles: &[u16],
     weights: &mut [i64],
     coordinates: &mut [i64],
-    s: &mut [i64],
+    s: &[i64],
     sum: usize,
 ) -> Ended
     requires { ⌜ Mendable n (now triangles) (now weights) (now coordinates) (now s) sum ⌝ }
     ensures { λ r. ⌜ ((ls : List ℕ) → Ready n (now (triangles .entry)) ls (now (s .entry)) → now (coordinates .entry) ≡ forward n (now (triangles .entry)) ls (now (weights .entry)) →
-        Ends n (now (triangles .entry)) ls (now (weights .entry)) (now (weights .exit)) (now (coordinates .exit)) r) ⌝ }
+        Halts n (now (triangles .entry)) ls (now (weights .entry)) (now (weights .exit)) (now (coordinates .exit)) r) ⌝ }
 {
     let end = 2 * n - 4;
     let mut total = sum;
@@ -120,4 +103,22 @@ pub fn mend(
         t = next;
     }
     Ended::Mended(count)
+}
+
+// The weights are mended, and their coordinates written.
+pub fn mend(
+    n: usize,
+    triangles: &[u16],
+    weights: &mut [i64],
+    coordinates: &mut [i64],
+    s: &[i64],
+    sum: usize,
+) -> Ended
+    requires { ⌜ Mendable n (now triangles) (now weights) (now coordinates) (now s) sum ⌝ }
+    ensures { λ r. ⌜ ((ls : List ℕ) → Ready n (now (triangles .entry)) ls (now (s .entry)) → now (coordinates .entry) ≡ forward n (now (triangles .entry)) ls (now (weights .entry)) →
+        Ends n (now (triangles .entry)) ls (now (weights .entry)) (now (weights .exit)) (now (coordinates .exit)) r) ⌝ }
+{
+    let ended = raise_all(n, triangles, weights, coordinates, s, sum);
+    thirds::write_thirds(n, triangles, coordinates);
+    ended
 }

@@ -1,28 +1,14 @@
-// Repair on a peeled mesh: the coordinates of the lent weights first, then the words that a raise reads, then the loop.
+// Repair on a peeled mesh: the coordinates of the lent weights first, then the words that a raise reads and the rows of families, then the loop.
 use mendcode::Ended;
 ghost use mathlib.Core.Path.{_≡_};
 ghost use mathlib.Core.Bool.{false};
 ghost use mathlib.Core.List.{List};
-ghost use Prim.Native.Nat.{ℕ, _*_, _<_, _≤_};
-ghost use lib.ListN.{length};
+ghost use Prim.Native.Nat.{ℕ};
 ghost use Rattle.definitions.specs.Words.{totalAbs};
 ghost use Rattle.definitions.specs.Refusals.{row9};
-ghost use Rattle.tables.specs.Tables.{view};
 ghost use Rattle.stage.specs.Stage.{Peeled};
 ghost use Rattle.mendcode.specs.Told.{Ends};
-ghost use Rattle.mendmesh.specs.Starts.{Wiped, Startable};
-
-// no signs at the vertices
-fn wipe(n: usize, s: &mut [i64])
-    requires { ⌜ (n < 65536) × (10 * n ≤ length (now s)) ⌝ }
-    ensures { λ r. ⌜ Wiped (view (now (s .entry))) (view (now (s .exit))) n ⌝ }
-{
-    let mut v = 0;
-    while v < n {
-        tables::set_mark(s, 2 * v, 0);
-        v += 1;
-    }
-}
+ghost use Rattle.mendmesh.specs.Starts.{Startable};
 
 // the sum of the absolute values of weights that 9 lets through
 fn total_of(weights: &[i64]) -> usize
@@ -52,7 +38,7 @@ pub fn mend_mesh(
 {
     foremap::write_coordinates(n, triangles, s, weights, coordinates);
     laying::lay(n, triangles, s);
-    wipe(n, s);
+    planting::plant(n, triangles, s);
     let sum = total_of(weights);
     mendcode::mend(n, triangles, weights, coordinates, s, sum)
 }

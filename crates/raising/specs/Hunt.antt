@@ -1,26 +1,37 @@
--- The next bad triangle, looked for by number: the tests that the code makes on scratch and coordinates, that they are the definition's on a mesh laid out for
--- repair, and what a search in order finds. Assumes nothing.
+-- The next bad triangle, looked for by number and on the walks of the triangle last raised: the tests and steps that the code makes on scratch and coordinates,
+-- that they are the definition's on a mesh laid out for repair, and what a search in order finds. Assumes nothing.
 use Prim.Native.Nat.{ℕ, zero, suc, _+_, _-_, _*_, _/_, _≤_, _<_}
 use mathlib.Core.Path.{_≡_, refl, sym, ap, _∙_}
-use mathlib.Core.Logic.{inl, inr}
-use mathlib.Core.Bool.{Bool, true, false, not, _&&_, _||_}
+use mathlib.Core.Logic.{_≢_, inl, inr}
+use mathlib.Core.Bool.{Bool, true, false, cond}
 use mathlib.Core.List.{List, [], _∷_}
-use mathlib.Core.Option.{Option, none, some}
+use mathlib.Core.Option.{none, some}
 use native.Mathlib.Omega.{arith}
 use native.Mathlib.Decide.{ℕ-discrete}
 use lib.Dec.{eqb}
-use lib.IntN.{ℤ}
-use borrow.Author.Tests.{eqb-true, not-false}
+use lib.ListN.{length}
+use lib.IntN.{ℤ, _+ℤ_}
+use borrow.Author.Tests.{ne-eqb}
 use Rattle.definitions.specs.Words.{run, first}
+use Rattle.definitions.specs.Mesh.{trianglesLength, tri, next, prev, org, tip, opp}
+use Rattle.definitions.specs.Labels.{outer, label, corner}
+use Rattle.definitions.specs.Backward.{coordinate}
 use Rattle.definitions.specs.Repair.{bad, raise}
-use Rattle.laws.specs.Lists.{or-neither, and-either}
-use Rattle.tables.specs.Tables.{Tables, view}
-use Rattle.areas.specs.Areas.{badOf, raiseOf, bad-of, raise-of}
-use Rattle.raising.specs.Regions.{Grown, bad-kept}
-use Rattle.raising.specs.Laid.{part0, part1, part2}
-use Rattle.raising.specs.Ready.{Ready, corners-are}
+use Rattle.laws.specs.Lists.{_∈_, tested}
+use Rattle.sphere.specs.Sphere.{Sphere}
+use Rattle.sphere.specs.Darts.{next-next, next-prev, next-below, prev-below}
+use Rattle.realizer.specs.Realizer.{Realizer}
+use Rattle.realizer.specs.Units.{vertexAt}
+use Rattle.borders.specs.Borders.{line-on}
+use Rattle.borders.specs.Lines.{beyond, line}
+use Rattle.tables.specs.Tables.{Tables}
+use Rattle.stage.specs.Stage.{across, tag}
+use Rattle.areas.specs.Areas.{badOf, raiseOf, Agree, bad-of, raise-of}
+use Rattle.raising.specs.Laid.{dart-low, four, part0, part1, part2, part0-is, part1-is, part2-is, apexOf, into, sideOf, cornersOf, linesOf}
+use Rattle.raising.specs.Apexes.{apex-is, apex-below}
+use Rattle.raising.specs.Planted.{moveOf, Planted}
 
--- triangle t is bad; the raise that it asks for; its corners do not all lie in one region; it is bad and reaches over several regions
+-- triangle t is bad; the raise that it asks for
 unfoldable pub badAt : Tables → List ℤ → ℕ → Bool
 unfolding badOf part0 part1 part2
 badAt S bs t = let w = S .op (3 * t + 1) in badOf bs (part0 w) (part1 w) (part2 w)
@@ -29,16 +40,20 @@ unfoldable pub raiseAt : Tables → List ℤ → ℕ → ℤ
 unfolding raiseOf part0 part1 part2
 raiseAt S bs t = let w = S .op (3 * t + 1) in raiseOf bs (part0 w) (part1 w) (part2 w)
 
-unfoldable pub split : Tables → ℕ → Bool
-unfolding part0 part1 part2
-split S t =
-    let w = S .op (3 * t + 1) in
-    let a = S .mark (2 * part0 w) in
-    not (eqb (S .mark (2 * part1 w)) a) || not (eqb (S .mark (2 * part2 w)) a)
+-- the next triangle on the walk of colour c, which ends in the outer one
+unfoldable pub nextOn : Tables → ℕ → ℕ → ℕ
+unfolding part0 part1
+nextOn S c t = cond (eqb t 0) 0 (cond (eqb c 2) (part0 (S .op (3 * t))) (cond (eqb c 0) (part0 (S .op (3 * t + 2))) (part1 (S .op (3 * t + 2)))))
 
-unfoldable pub splitBad : Tables → List ℤ → ℕ → Bool
-unfolding split badAt
-splitBad S bs t = split S t && badAt S bs t
+-- t, and those after it until the outer triangle, of k at most
+unfoldable pub lineOn : Tables → ℕ → ℕ → ℕ → List ℕ
+unfolding nextOn
+lineOn S c zero t = []
+lineOn S c (suc k) t = elim (eqb t 0) [ true ↦ [] | false ↦ t ∷ lineOn S c k (nextOn S c t) ]
+
+pub lineOn-on : (S : Tables) (c k t : ℕ) → t ≢ 0 → lineOn S c (suc k) t ≡ t ∷ lineOn S c k (nextOn S c t)
+unfolding lineOn
+lineOn-on S c k t d = ap (λ (x : Bool). elim x [ true ↦ [] | false ↦ t ∷ lineOn S c k (nextOn S c t) ]) (ne-eqb t 0 d)
 
 -- r is the first number from a on, and below b, that passes the test; b, if none does
 pub record Found (p : ℕ → Bool) (a b r : ℕ) : Type 0 where
@@ -46,6 +61,14 @@ pub record Found (p : ℕ → Bool) (a b r : ℕ) : Type 0 where
   pub most : r ≤ b
   pub before : (i : ℕ) → a ≤ i → i < r → p i ≡ false
   pub hit : r < b → p r ≡ true
+
+-- what a search after a raise of t finds: on its walks no triangle from `full` on and below `low` is bad, and r is the first bad one from `low` on
+pub record Next (S : Tables) (bs : List ℤ) (full t to r : ℕ) : Type 0 where
+  pub low : ℕ
+  pub low-least : full ≤ low
+  pub low-most : low ≤ t
+  pub clear : (c : ℕ) → c < 3 → (g : ℕ) → g ∈ lineOn S c to t → full ≤ g → g < low → badAt S bs g ≡ false
+  pub found : Found (badAt S bs) low to r
 
 -- ---- the first of a run
 
@@ -63,41 +86,119 @@ unfolding first run
 first-not p a zero b = refl
 first-not p a (suc k) b = rw (b a (omega arith) (omega arith)) (first-not p (suc a) k (λ i m n. b i (omega arith) (omega arith)))
 
--- ---- on a mesh that is ready
+-- ---- the walks
 
-module _ (n : ℕ) (ts ls : List ℕ) (s : List ℤ) (Y : Ready n ts ls s) (t : ℕ) (h : 0 < t) (k : t < 2 * n - 4) where
-  pub bad-is : (bs : List ℤ) → badAt (view s) bs t ≡ bad ts ls bs t
-  unfolding badAt
-  bad-is bs = let c = corners-are n ts ls s Y t h k in rw (c .0, c .1, c .2) (bad-of ts ls bs t)
-
-  pub raise-is : (bs : List ℤ) → raiseAt (view s) bs t ≡ raise ts ls bs t
-  unfolding raiseAt
-  raise-is bs = let c = corners-are n ts ls s Y t h k in rw (c .0, c .1, c .2) (raise-of ts ls bs t)
-
--- ---- after a raise
-
--- corners in one region
-one-region : (S : Tables) (t : ℕ) → split S t ≡ false →
-    (S .mark (2 * part1 (S .op (3 * t + 1))) ≡ S .mark (2 * part0 (S .op (3 * t + 1)))) × (S .mark (2 * part2 (S .op (3 * t + 1))) ≡ S .mark (2 * part0 (S .op (3 * t + 1))))
-unfolding split
-one-region S t e =
-    let w = S .op (3 * t + 1) in
-    let a = S .mark (2 * part0 w) in
-    let b = S .mark (2 * part1 w) in
-    let c = S .mark (2 * part2 w) in
-    let o = or-neither (not (eqb b a)) (not (eqb c a)) e in
-    (eqb-true b a (not-false (eqb b a) (o .0)), eqb-true c a (not-false (eqb c a) (o .1)))
-
--- A triangle that was not bad is not bad after the raise either, if the second test does not find it.
-pub still-good : (n : ℕ) (S : Tables) (x : ℤ) (bs bs′ : List ℤ) → Grown n (λ v. S .mark (2 * v)) x bs bs′ → (t : ℕ) →
-    (part0 (S .op (3 * t + 1)) < n) × (part1 (S .op (3 * t + 1)) < n) × (part2 (S .op (3 * t + 1)) < n) →
-    badAt S bs t ≡ false → splitBad S bs′ t ≡ false → badAt S bs′ t ≡ false
-unfolding badAt splitBad
-still-good n S x bs bs′ G t low good unfound =
-    elim (and-either (split S t) (badAt S bs′ t) unfound) [
-      | inr e ↦ e
-      | inl e ↦
-          let w = S .op (3 * t + 1) in
-          let o = one-region S t e in
-          bad-kept n (λ v. S .mark (2 * v)) x bs bs′ G (part0 w) (part1 w) (part2 w) (low .0) (low .1) (low .2) (sym (o .0)) (sym (o .1)) ∙ good
+-- steps that are the definition's make the same walk
+pub lines-are : (ts ls : List ℕ) (S : Tables) (c : ℕ) → ((u : ℕ) → 0 < u → u < length ts / 3 → nextOn S c u ≡ beyond ts ls c u) →
+    ((u : ℕ) → 0 < u → u < length ts / 3 → beyond ts ls c u < length ts / 3) → (k t : ℕ) → t < length ts / 3 → lineOn S c k t ≡ line ts ls c k t
+unfolding lineOn line
+lines-are ts ls S c same stay zero t h = refl
+lines-are ts ls S c same stay (suc k) t h =
+    elim (ℕ-discrete t 0) [
+      | yes z ↦ rw z
+      | no z ↦
+          let p : 0 < t = omega arith in
+          lineOn-on S c k t z ∙ ap (λ (u : ℕ). t ∷ lineOn S c k u) (same t p h)
+          ∙ ap (λ (us : List ℕ). t ∷ us) (lines-are ts ls S c same stay k (beyond ts ls c t) (stay t p h)) ∙ sym (line-on ts ls c k t z)
     ]
+
+-- the lowest part of a word, whatever stands above it
+lowest : (a b c d w : ℕ) → w ≡ four a b c d → a < 65536 → part0 w ≡ a
+unfolding part0 four
+lowest a b c d w e h = omega arith
+
+-- where the colour-2 walk goes, whichever family its word tells of
+move-to : (ts : List ℕ) (T : Tables) (from0 size0 from1 size1 : ℕ → ℕ) (t w : ℕ) → w ≡ moveOf ts T from0 size0 from1 size1 t → part0 w ≡ tri (into (T .op) t)
+unfolding moveOf
+move-to ts T from0 size0 from1 size1 t w e =
+    let o = into (T .op) t in
+    let a = org ts o in
+    let b = tip ts o in
+    let f = sideOf T o a b in
+    let l : tri o < 65536 = dart-low (T .op) (next (apexOf (T .op) t)) in
+    elim (tested (eqb f 1)) [
+      | inl p ↦ lowest (tri o) (from0 a) (size0 a) 1 w (e ∙ rw p) l
+      | inr p ↦
+          elim (tested (eqb f 2)) [
+            | inl q ↦ lowest (tri o) (from1 b) (size1 b) 2 w (e ∙ rw (p, q)) l
+            | inr q ↦ lowest (tri o) a b f w (e ∙ rw (p, q)) l
+          ]
+    ]
+
+-- ---- on a mesh that is laid out
+
+module _ (n : ℕ) (ts ls : List ℕ) (T S : Tables) (size : length ts ≡ trianglesLength n) (sph : Sphere n (length ts / 3) (org ts) (opp ts))
+    (R : Realizer n (length ts / 3) (org ts) (opp ts) (label ls) (outer ts)) (across-is : (d : ℕ) → d < length ts → across (T .op) d ≡ opp ts d)
+    (tag-is : (d : ℕ) → d < length ts → tag (T .op) d ≡ label ls d) (P : Planted n ts T S) (t : ℕ) (h : 0 < t) (k : t < 2 * n - 4) where
+  whole : length ts ≡ 3 * (length ts / 3)
+  whole = omega (arith, size)
+
+  inside : t < length ts / 3
+  inside = omega (arith, size)
+
+  abbrev g : ℕ
+  g = apexOf (T .op) t
+
+  corners-at : (corner ls t 2 ≡ g) × (corner ls t 0 ≡ next g) × (corner ls t 1 ≡ prev g)
+  corners-at = apex-is ts ls sph whole R (T .op) across-is tag-is t h inside
+
+  below : (g < 3 * (length ts / 3)) × (next g < 3 * (length ts / 3)) × (prev g < 3 * (length ts / 3))
+  below =
+      let b = apex-below ts ls sph whole R (T .op) across-is tag-is t h inside .below in
+      (b, next-below (length ts / 3) g b, prev-below (length ts / 3) g b)
+
+  -- the triangles beyond it
+  beyond-are : (beyond ts ls 0 t ≡ tri (opp ts (prev g))) × (beyond ts ls 1 t ≡ tri (opp ts g)) × (beyond ts ls 2 t ≡ tri (opp ts (next g)))
+  unfolding beyond
+  beyond-are = rw (corners-at .0, corners-at .1, corners-at .2, next-next g, next-prev g) (refl, refl, refl)
+
+  across-at : (d : ℕ) → d < 3 * (length ts / 3) → across (T .op) d ≡ opp ts d
+  across-at d b = across-is d (omega (arith, b, whole))
+
+  inner : t ≢ 0
+  inner z = absurd (omega (arith, h, z))
+
+  -- the words lead there
+  pub next-is : (c : ℕ) → c < 3 → nextOn S c t ≡ beyond ts ls c t
+  unfolding nextOn into linesOf
+  next-is zero b =
+      rw (ne-eqb t 0 inner)
+      (lowest (tri (across (T .op) (prev g))) (tri (across (T .op) g)) 0 0 (S .op (3 * t + 2)) (P .lined .lines t h k) (dart-low (T .op) (prev g))
+      ∙ ap tri (across-at (prev g) (below .2)) ∙ sym (beyond-are .0))
+  next-is (suc zero) b =
+      rw (ne-eqb t 0 inner)
+      (part1-is (tri (across (T .op) (prev g))) (tri (across (T .op) g)) 0 0 (S .op (3 * t + 2)) (P .lined .lines t h k) (dart-low (T .op) (prev g)) (dart-low (T .op) g)
+      (omega arith)
+      ∙ ap tri (across-at g (below .0)) ∙ sym (beyond-are .1))
+  next-is (suc (suc zero)) b =
+      rw (ne-eqb t 0 inner)
+      (move-to ts T (P .from0) (P .size0) (P .from1) (P .size1) t (S .op (3 * t)) (P .moves t h k) ∙ ap tri (across-at (next g) (below .1)) ∙ sym (beyond-are .2))
+  next-is (suc (suc (suc c))) b = absurd (omega arith)
+
+  -- the vertices at its corners
+  module _ (low : (d : ℕ) → org ts d < 65536) where
+    pub corners-are :
+        (part0 (S .op (3 * t + 1)) ≡ vertexAt ts ls t 0) × (part1 (S .op (3 * t + 1)) ≡ vertexAt ts ls t 1) × (part2 (S .op (3 * t + 1)) ≡ vertexAt ts ls t 2)
+    unfolding cornersOf
+    corners-are =
+        let w = S .op (3 * t + 1) in
+        let e = P .corners t h k in
+        let p = org ts (next g) in
+        let q = org ts (prev g) in
+        let r = org ts g in (
+          part0-is p q r 0 w e (low (next g)) (low (prev g)) (low g) ∙ sym (ap (org ts) (corners-at .1)),
+          part1-is p q r 0 w e (low (next g)) (low (prev g)) (low g) ∙ sym (ap (org ts) (corners-at .2)),
+          part2-is p q r 0 w e (low (next g)) (low (prev g)) (low g) ∙ sym (ap (org ts) (corners-at .0)),
+        )
+
+    -- Coordinates bs of which only the first two are those of bs′ tell whether it is bad, and its raise.
+    module _ (bs bs′ : List ℤ) (same : (a : ℕ) → a < 3 → Agree bs bs′ (vertexAt ts ls t a)) where
+      pub bad-is : badAt S bs t ≡ bad ts ls bs′ t
+      unfolding badAt
+      bad-is = let c = corners-are in rw (c .0, c .1, c .2) (bad-of ts ls bs bs′ t same)
+
+      pub raise-is : (N : ℤ) →
+          ((a : ℕ) → a < 3 → coordinate bs′ 0 (vertexAt ts ls t a) +ℤ coordinate bs′ 1 (vertexAt ts ls t a) +ℤ coordinate bs′ 2 (vertexAt ts ls t a) ≡ N) →
+          raiseAt S bs t ≡ raise ts ls bs′ t
+      unfolding raiseAt
+      raise-is N total = let c = corners-are in rw (c .0, c .1, c .2) (raise-of ts ls bs bs′ N t same total)

@@ -1,10 +1,11 @@
--- What one raise does to the coordinates, and how marks in scratch lead to it.
-pub mod Regions
+-- What one raise does to the coordinates, and how words in scratch lead to it.
 pub mod Order
-pub mod Work
-pub mod Walked
-pub mod Settled
 pub mod Laid
-pub mod Ready
+pub mod Apexes
+pub mod Planted
+pub mod Ends
+pub mod Swept
+pub mod Raised
 pub mod Hunt
+pub mod Ready
 pub mod Mends

@@ -1,19 +1,19 @@
 -- The tables of a stored trace, vertex by vertex: who leaves as the k-th, by which darts, and that its two neighbours on the frontier leave later or stay.
 -- Assumes nothing.
-use Prim.Native.Nat.{ℕ, zero, suc, _+_, _*_, _-_, _≤_, _<_}
+use Prim.Native.Nat.{ℕ, suc, _+_, _*_, _-_, _≤_, _<_}
 use mathlib.Core.Path.{_≡_, refl, sym, ap, _∙_, subst}
 use mathlib.Core.Logic.{_≢_, inl, inr}
-use mathlib.Core.Bool.{Bool, true, false, not, _&&_}
-use mathlib.Core.List.{List, [], _∷_, map, List·Memᴰ, List·Memᴰ·head, List·Memᴰ·tail, List·Memᴰ·not-nil, List·Memᴰ·cases-cons, Memᴰ·of-map}
+use mathlib.Core.Bool.{Bool, true, not, _&&_}
+use mathlib.Core.List.{List, [], _∷_, map, List·Memᴰ·head, List·Memᴰ·tail, List·Memᴰ·not-nil, List·Memᴰ·cases-cons, Memᴰ·of-map}
 use native.Mathlib.Omega.{arith}
 use native.Mathlib.Decide.{ℕ-discrete}
 use lib.Dec.{eqb}
 use lib.ListN.{length, length-map}
 use borrow.Author.Tests.{eq-eqb, ne-eqb, eqb-true, eqb-false, not-true}
 use Rattle.definitions.specs.Words.{upto, keep, seek}
-use Rattle.definitions.specs.Mesh.{next, prev}
-use Rattle.laws.specs.Lists.{_∈_, tested, clash, and-both, true-any, seek-in, keep-in, in-upto, upto-in, length-upto}
-use Rattle.laws.specs.Counting.{Distinct, distinct-within, distinct-keep, distinct-map, distinct-upto, distinct-full, keep-not}
+use Rattle.definitions.specs.Mesh.{next}
+use Rattle.laws.specs.Lists.{_∈_, clash, and-both, true-any, seek-in, keep-in, in-upto, upto-in, length-upto}
+use Rattle.laws.specs.Counting.{distinct-within, distinct-keep, distinct-map, distinct-upto, distinct-full, keep-not}
 use Rattle.laws.specs.Every.{Every}
 use Rattle.sphere.specs.Sphere.{Sphere}
 use Rattle.sphere.specs.Turns.{tip-opp, tip-rot}
@@ -204,3 +204,17 @@ module _ {n T : ℕ} {org opp label v : ℕ → ℕ} (sph : Sphere n T org opp) 
 
     pub leaver-once : (i j : ℕ) → i < n - 2 → j < n - 2 → who t i ≡ who t j → i ≡ j
     leaver-once i j h l e = sym (when-who i h) ∙ ap when e ∙ when-who j l
+
+-- ---- other tables with the same trace
+
+module _ {T : ℕ} {org opp : ℕ → ℕ} (n : ℕ) (t t′ : Tables) (same : (k : ℕ) → who t′ k ≡ who t k) (left : (k : ℕ) → k < n - 2 → t′ .head (who t k) ≡ t .head (who t k))
+    (right : (k : ℕ) → k < n - 2 → t′ .count (who t k) ≡ t .count (who t k)) where
+  pub stored-same : {C : List ℕ} (k : ℕ) (tr : Trace T org opp C) → Stored n T org opp t k tr → Stored n T org opp t′ k tr
+  stored-same k done q = q
+  stored-same k (step e e′ gs h o f s tr) q =
+      let l : k < n - 2 = omega (arith, stored-length n t (suc k) tr (q .3)) in (
+        same k ∙ q .0,
+        ap (t′ .head) (sym (q .0)) ∙ left k l ∙ ap (t .head) (q .0) ∙ q .1,
+        ap (t′ .count) (sym (q .0)) ∙ right k l ∙ ap (t .count) (q .0) ∙ q .2,
+        stored-same (suc k) tr (q .3),
+      )

@@ -1,63 +1,49 @@
--- A mesh whose trace is laid out in scratch, with no signs at the vertices: the regions of each triangle are found, and it is ready again. Assumes nothing.
-use Prim.Native.Nat.{ℕ, zero, suc, _+_, _-_, _*_, _/_, _≤_, _<_}
-use mathlib.Core.Path.{_≡_, refl, sym, ap, _∙_}
-use mathlib.Core.Bool.{Bool, true, false, cond}
+-- A mesh whose words are laid out in scratch for repair: they tell what is bad and by how much it is to be raised, and where the walks go. Assumes nothing.
+use Prim.Native.Nat.{ℕ, _+_, _-_, _*_, _/_, _≤_, _<_}
+use mathlib.Core.Path.{_≡_, refl, ap}
 use mathlib.Core.List.{List}
 use native.Mathlib.Omega.{arith}
-use native.Mathlib.Decide.{decLt}
+use native.Mathlib.Decide.{ℕ-discrete, decLt}
+use lib.Dec.{eqb}
+use borrow.Author.Tests.{le-ltb, eq-eqb, ne-eqb}
 use lib.ListN.{length, List·getD-eq-default}
-use lib.IntN.{ℤ}
-use Rattle.definitions.specs.Mesh.{trianglesLength, tri, next, prev, org, tip, opp}
+use lib.IntN.{ℤ, natAbs}
+use Rattle.definitions.specs.Words.{total, totalAbs}
+use Rattle.definitions.specs.Mesh.{trianglesLength, weightsLength, org, opp}
 use Rattle.definitions.specs.Labels.{outer, label}
-use Rattle.definitions.specs.Forward.{crosses}
+use Rattle.definitions.specs.Forward.{forward}
+use Rattle.definitions.specs.Repair.{limit, bad, raise}
+use Rattle.definitions.specs.Refusals.{row9}
 use Rattle.sphere.specs.Sphere.{Sphere}
-use Rattle.realizer.specs.Trace.{Trace, done, step}
 use Rattle.realizer.specs.Realizer.{Realizer}
-use Rattle.realizer.specs.Units.{vertexAt}
-use Rattle.crossings.specs.Tests.{named}
+use Rattle.realizer.specs.Units.{Units, bit, unit0, unit1, vertexAt}
+use Rattle.crossings.specs.UnitMaps.{units}
+use Rattle.mending.specs.Places.{coordinates-total}
+use Rattle.mending.specs.Bounds.{row10-forward}
+use Rattle.borders.specs.Lines.{line}
+use Rattle.borders.specs.Borders.{beyond-below}
 use Rattle.tables.specs.Tables.{Tables, view}
-use Rattle.stage.specs.Stage.{across, tag, Labelled, Stored, Peeled}
-use Rattle.raising.specs.Regions.{region}
-use Rattle.raising.specs.Order.{leaver-below}
-use Rattle.raising.specs.Work.{apexOf, into}
-use Rattle.raising.specs.Walked.{Framed, apex-is, into-below}
-use Rattle.raising.specs.Settled.{regions-are}
-use Rattle.raising.specs.Laid.{four, part0, part1, part2, part0-is, part1-is, part2-is, cornersOf, leaverOf, way-parts, Laid, laid-framed, found, found-framed, same-found, asIf, asIf-framed, asIf-same}
+use Rattle.stage.specs.Stage.{across, tag, Stored}
+use Rattle.areas.specs.Areas.{Agree, raise-small}
+use Rattle.raising.specs.Planted.{Planted}
+use Rattle.raising.specs.Swept.{swept, swept-1, swept-1-last, swept-2, swept-2-first}
+use Rattle.raising.specs.Raised.{Drawn}
+use Rattle.raising.specs.Hunt.{badAt, raiseAt, lineOn, lines-are, next-is, bad-is, raise-is}
 
 pub record Ready (n : ℕ) (ts ls : List ℕ) (s : List ℤ) : Type 0 where
   pub most : n ≤ 4096
   pub size : length ts ≡ trianglesLength n
   pub sphere : Sphere n (length ts / 3) (org ts) (opp ts)
   pub realizer : Realizer n (length ts / 3) (org ts) (opp ts) (label ls) (outer ts)
-  -- the tables of the labels stage
+  -- the tables of the labels stage; v0 and v1, which did not leave, have the outer triangle's dart between them
   pub tables : Tables
   pub stored : Stored n (length ts / 3) (org ts) (opp ts) tables 0 (realizer .trace)
+  pub first : tables .count (outer ts 0) ≡ 2
+  pub last : tables .head (outer ts 1) ≡ 2
   pub across-is : (d : ℕ) → d < length ts → across (tables .op) d ≡ opp ts d
   pub tag-is : (d : ℕ) → d < length ts → tag (tables .op) d ≡ label ls d
   -- what repair has made of them
-  pub laid : Laid n ts tables (view s)
-  pub clean : (i : ℕ) → i < n → view s .mark (2 * i) < 4
-
--- what is stored of the trace stays, whatever happens to the marks of vertices
-stored-framed : {T : ℕ} {org opp : ℕ → ℕ} (n : ℕ) (S S′ : Tables) → Framed S S′ → {C : List ℕ} (k : ℕ) (tr : Trace T org opp C) →
-    Stored n T org opp S k tr → Stored n T org opp S′ k tr
-stored-framed n S S′ f k done q = q
-stored-framed {org = org} n S S′ f k (step e e′ gs h o fan s tr) q = (
-  f .odd k ∙ q .0,
-  ap (λ (g : ℕ → ℕ). g (org e)) (f .head) ∙ q .1,
-  ap (λ (g : ℕ → ℕ). g (org e)) (f .count) ∙ q .2,
-  stored-framed n S S′ f (suc k) tr (q .3),
-)
-
--- the regions of a raised triangle are 0, 1 or 2
-region-below : (n : ℕ) (ts ls : List ℕ) (u i : ℕ) → region n ts ls u i < 3
-unfolding region
-region-below n ts ls u i = go (crosses n ts ls 1 i u) (crosses n ts ls 0 i u)
-  where
-    go : (a b : Bool) → cond a 0 (cond b 1 2) < 3
-    go true b = omega arith
-    go false true = omega arith
-    go false false = omega arith
+  pub planted : Planted n ts tables (view s)
 
 -- every corner's vertex, and the 0 that stands for a corner past the end, is below n
 pub vertex-low : (n : ℕ) (ts : List ℕ) → length ts ≡ trianglesLength n → Sphere n (length ts / 3) (org ts) (opp ts) → (d : ℕ) → org ts d < n
@@ -72,89 +58,71 @@ module _ (n : ℕ) (ts ls : List ℕ) (s : List ℤ) (Y : Ready n ts ls s) where
   pub org-low : (d : ℕ) → org ts d < n
   org-low d = vertex-low n ts (Y .size) (Y .sphere) d
 
-  pub whole : length ts ≡ 3 * (length ts / 3)
-  whole = omega (arith, Y .size)
-
   low : (d : ℕ) → org ts d < 65536
   low d = omega (arith, org-low d, Y .most)
 
-  tip-low : (d : ℕ) → tip ts d < 65536
-  unfolding tip
-  tip-low d = low (next d)
+  -- ---- walks
 
-  stay : (t : ℕ) → 0 < t → t < 2 * n - 4 → tri (into (Y .tables .op) t) < 2 * n - 4
-  stay t h k =
-      omega (arith, into-below ts ls (Y .sphere) whole (Y .realizer) (Y .tables .op) (Y .across-is) (Y .tag-is) t h (omega (arith, Y .size)), Y .size)
+  pub line-is : (c : ℕ) → c < 3 → (t : ℕ) → t < 2 * n - 4 → lineOn (view s) c (2 * n - 4) t ≡ line ts ls c (length ts / 3) t
+  line-is c b t k =
+      let e : length ts / 3 ≡ 2 * n - 4 = omega (arith, Y .size) in
+      rw e
+      (lines-are ts ls (view s) c
+      (λ u p q. next-is n ts ls (Y .tables) (view s) (Y .size) (Y .sphere) (Y .realizer) (Y .across-is) (Y .tag-is) (Y .planted) u p (omega (arith, Y .size)) c b)
+      (λ u p q. beyond-below ts ls (Y .sphere) (Y .size) (Y .realizer) c u b p q) (2 * n - 4) t (omega (arith, Y .size)))
 
-  few : (k : ℕ) → k < n - 2 → Y .tables .mark (2 * k + 1) < 65536
-  few k h = omega (arith, leaver-below (Y .sphere) (Y .realizer) (named ts) (Y .tables) (Y .stored) k h, Y .most)
+  -- ---- triangle t, from what is drawn of the weights
 
-  -- where the words lead to
-  pub ways-low : (t : ℕ) → 0 < t → t < 2 * n - 4 → (part0 (view s .op (3 * t)) < 2 * n - 4) × (part1 (view s .op (3 * t)) < n) × (part2 (view s .op (3 * t)) < n)
-  unfolding tip
-  ways-low t h k =
-      let o = into (Y .tables .op) t in
-      let w = way-parts ts (Y .tables) low t (view s .op (3 * t)) (Y .laid .ways t h k) in
-      (rw (w .0) (stay t h k), rw (w .1) (org-low o), rw (w .2) (org-low (next o)))
+  module _ (ws bs : List ℤ) (D : Drawn n ts ls ws bs) (t : ℕ) (h : 0 < t) (k : t < 2 * n - 4) where
+    agree : (a : ℕ) → a < 3 → Agree bs (forward n ts ls ws) (vertexAt ts ls t a)
+    agree a q = record { first = D .same 0 (vertexAt ts ls t a) (omega arith) (org-low _); second = D .same 1 (vertexAt ts ls t a) (omega arith) (org-low _) }
 
-  pub leaver-low : (k : ℕ) → k < n - 2 → part0 (view s .mark (2 * k + 1)) < n
-  unfolding leaverOf
-  leaver-low k h =
-      let T = Y .tables in
-      let v = T .mark (2 * k + 1) in
-      rw (part0-is v (tip ts (T .head v)) (org ts (T .count v)) 0 (view s .mark (2 * k + 1)) (Y .laid .leavers k h) (few k h) (tip-low (T .head v)) (low (T .count v)))
-      (leaver-below (Y .sphere) (Y .realizer) (named ts) (Y .tables) (Y .stored) k h)
+    pub tells-bad : badAt (view s) bs t ≡ bad ts ls (forward n ts ls ws) t
+    tells-bad =
+        bad-is n ts ls (Y .tables) (view s) (Y .size) (Y .sphere) (Y .realizer) (Y .across-is) (Y .tag-is) (Y .planted) t h k low bs (forward n ts ls ws) agree
 
-  -- ---- the corners of triangle t
+    pub tells-raise : raiseAt (view s) bs t ≡ raise ts ls (forward n ts ls ws) t
+    tells-raise =
+        raise-is n ts ls (Y .tables) (view s) (Y .size) (Y .sphere) (Y .realizer) (Y .across-is) (Y .tag-is) (Y .planted) t h k low bs (forward n ts ls ws) agree
+        (total ws) (λ a q. coordinates-total n ts ls ws (vertexAt ts ls t a) (org-low _))
+
+    pub raise-room : length ws ≡ weightsLength n → totalAbs ws ≤ limit → natAbs (raiseAt (view s) bs t) ≤ 2 * limit + 1
+    unfolding row9
+    raise-room long light =
+        rw tells-raise
+        (raise-small ts ls (forward n ts ls ws) t
+        (row10-forward n ts ls (Y .size) (units ts ls (Y .sphere) (Y .size) (Y .realizer)) ws long (le-ltb limit (totalAbs ws) light)))
+
+  -- ---- the raise of triangle t
 
   module _ (t : ℕ) (h : 0 < t) (k : t < 2 * n - 4) where
-    abbrev corner-word : ℕ
-    corner-word = view s .op (3 * t + 1)
+    inside : t < length ts / 3
+    inside = omega (arith, Y .size)
 
-    pub corners-are : (part0 corner-word ≡ vertexAt ts ls t 0) × (part1 corner-word ≡ vertexAt ts ls t 1) × (part2 corner-word ≡ vertexAt ts ls t 2)
-    unfolding cornersOf
-    corners-are =
-        let g = apexOf (Y .tables .op) t in
-        let a = apex-is ts ls (Y .sphere) whole (Y .realizer) (Y .tables .op) (Y .across-is) (Y .tag-is) t h (omega (arith, Y .size)) in
-        let e = Y .laid .corners t h k in
-        let p = org ts (next g) in
-        let q = org ts (prev g) in
-        let r = org ts g in (
-          part0-is p q r 0 corner-word e (low (next g)) (low (prev g)) (low g) ∙ sym (ap (org ts) (a .1)),
-          part1-is p q r 0 corner-word e (low (next g)) (low (prev g)) (low g) ∙ sym (ap (org ts) (a .2)),
-          part2-is p q r 0 corner-word e (low (next g)) (low (prev g)) (low g) ∙ sym (ap (org ts) (a .0)),
-        )
+    unit-maps : Units n ts ls
+    unit-maps = units ts ls (Y .sphere) (Y .size) (Y .realizer)
 
-    pub corners-low : (part0 corner-word < n) × (part1 corner-word < n) × (part2 corner-word < n)
-    corners-low = let c = corners-are in (rw (c .0) (org-low _), rw (c .1) (org-low _), rw (c .2) (org-low _))
+    -- v0 and v1, which stand in no family, counted in, the walk comes by a vertex as often as its coordinate has the weight of t
+    pub by-first : (i : ℕ) → i < n → swept 2 (λ j. view s .mark (2 * j)) (view s .op) (2 * n - 4) t i + bit (eqb i (org ts 0)) ≡ unit0 n ts ls t i
+    unfolding outer
+    by-first i l =
+        elim (ℕ-discrete i (org ts 0)) [
+          | yes e ↦
+              let none = swept-2-first ts ls (Y .sphere) (Y .size) (Y .realizer) (Y .tables) (Y .stored) (Y .across-is) (Y .tag-is) (Y .last) (Y .first) (Y .most) (view s) (Y .planted) t h k in
+              rw e (omega (arith, none, ap bit (eq-eqb (org ts 0) (org ts 0) refl), unit-maps .rim0 t h inside .0))
+          | no e ↦
+              let all = swept-2 ts ls (Y .sphere) (Y .size) (Y .realizer) (Y .tables) (Y .stored) (Y .across-is) (Y .tag-is) (Y .last) (Y .first) (Y .most) (view s) (Y .planted) t h k i l e in
+              omega (arith, all, ap bit (ne-eqb i (org ts 0) e))
+        ]
 
-    -- ---- its regions
-
-    pub found-regions : (i : ℕ) → i < n → found ts n t (view s) .mark (2 * i) ≡ region n ts ls t i
-    unfolding asIf
-    found-regions i l =
-        let T = asIf (Y .tables) (view s) in
-        let f = asIf-framed (Y .tables) (view s) in
-        let q = asIf-same (Y .tables) (view s) in
-        let r = regions-are ts ls (Y .sphere) (Y .size) (Y .realizer) t h (omega (arith, Y .size)) T (stored-framed n (Y .tables) T f 0 (Y .realizer .trace) (Y .stored)) (Y .across-is) (Y .tag-is)
-        (λ j m. rw (sym (q .even j)) (Y .clean j m)) i l in
-        same-found n ts (Y .tables) low stay few t (view s) T k (Y .laid) f q .even i ∙ r
-
-    pub found-below : (i : ℕ) → i < n → found ts n t (view s) .mark (2 * i) < 3
-    found-below i l = rw (found-regions i l) (region-below n ts ls t i)
-
-    -- it is ready again once they are found
-    pub ready-again : (s′ : List ℤ) → view s′ ≡ found ts n t (view s) → Ready n ts ls s′
-    ready-again s′ e =
-        record {
-          most = Y .most;
-          size = Y .size;
-          sphere = Y .sphere;
-          realizer = Y .realizer;
-          tables = Y .tables;
-          stored = Y .stored;
-          across-is = Y .across-is;
-          tag-is = Y .tag-is;
-          laid = rw e (laid-framed (found-framed ts n t (view s)) (Y .laid));
-          clean = λ i m. rw e (omega (arith, found-below i m));
-        }
+    pub by-second : (i : ℕ) → i < n → swept 1 (view s .count) (view s .op) (2 * n - 4) t i + bit (eqb i (org ts 2)) ≡ unit1 n ts ls t i
+    unfolding outer
+    by-second i l =
+        elim (ℕ-discrete i (org ts 2)) [
+          | yes e ↦
+              let none = swept-1-last ts ls (Y .sphere) (Y .size) (Y .realizer) (Y .tables) (Y .stored) (Y .across-is) (Y .tag-is) (Y .last) (Y .first) (Y .most) (view s) (Y .planted) t h k in
+              rw e (omega (arith, none, ap bit (eq-eqb (org ts 2) (org ts 2) refl), unit-maps .rim1 t h inside .1))
+          | no e ↦
+              let all = swept-1 ts ls (Y .sphere) (Y .size) (Y .realizer) (Y .tables) (Y .stored) (Y .across-is) (Y .tag-is) (Y .last) (Y .first) (Y .most) (view s) (Y .planted) t h k i l e in
+              omega (arith, all, ap bit (ne-eqb i (org ts 2) e))
+        ]

@@ -1,1 +1,1 @@
-// What one raise does to the coordinates, and how marks in scratch lead to it. Specs only.
+// What one raise does to the coordinates, and how words in scratch lead to it. Specs only.

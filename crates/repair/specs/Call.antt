@@ -1,7 +1,7 @@
 -- What the repair call answers and leaves, for each way that it can end: the equations of `repairCall`. Assumes nothing.
-use Prim.Native.Nat.{ℕ, _+_, _-_, _*_, _≤_, _<_}
+use Prim.Native.Nat.{ℕ, _≤_, _<_}
 use mathlib.Core.Path.{_≡_, refl, sym, ap, _∙_}
-use mathlib.Core.Bool.{Bool, true, false}
+use mathlib.Core.Bool.{true, false}
 use mathlib.Core.List.{List, [], _∷_, map}
 use mathlib.Core.Option.{Option, none, some}
 use native.Mathlib.Omega.{arith}
@@ -11,7 +11,7 @@ use lib.IntN.{ℤ, pos}
 use borrow.Author.Tests.{lt-ltb, lt-leb}
 use Rattle.definitions.specs.Words.{any}
 use Rattle.definitions.specs.Mesh.{trianglesLength, weightsLength, coordinatesLength, scratchLength}
-use Rattle.definitions.specs.Answers.{Answer, done, refused, plain, after, Row, row, ask}
+use Rattle.definitions.specs.Answers.{Answer, refused, plain, Row, row, ask}
 use Rattle.definitions.specs.Labels.{labels}
 use Rattle.definitions.specs.Forward.{forward}
 use Rattle.definitions.specs.Repair.{repair}

@@ -1,33 +1,34 @@
--- `areas::product` meets its contract, from that of `growth`: two growths leave their product room. Assumes nothing.
-use mathlib.Core.Path.{_∙_, ap₂}
-use native.Mathlib.Omega.{arith}
+-- `areas::product` meets its contract: numbers within the limit leave the product of their differences room. Assumes nothing.
 use lib.IntN.{natAbs, _*ℤ_}
+use native.Mathlib.Omega.{arith}
+use mathlib.Core.Path.{_∙_, ap₂}
+use mir.Facts.{toZ-ofZ}
 use Rattle.whole.specs.Whole.{held}
-use Rattle.areas.specs.Areas.{productOf, square}
-use borrow.Author.Needs.{needs}
+use Rattle.areas.specs.Areas.{square}
 use Rattle.areas.proofs.product.Statement.{statement}
 use Rattle.areas.proofs.product.Tie as tie
 
-growth-requires : tie.Need-growth-requires
-growth-requires c κs = search needs
+minus-requires : tie.Need-minus-requires
+minus-requires c κs = rw (toZ-ofZ (c .fits .a), toZ-ofZ (c .fits .b)) (omega (arith, c .pre .0, c .pre .1))
 
-growth-requires-2 : tie.Need-growth-requires-2
-growth-requires-2 c κs = search needs
+minus-requires-2 : tie.Need-minus-requires-2
+minus-requires-2 c κs = rw (toZ-ofZ (c .before .fits .c), toZ-ofZ (c .before .fits .d)) (omega (arith, c .before .pre .2, c .before .pre .3))
 
 times-requires : tie.Need-times-requires
-times-requires c κs = let ea = held (c .before .growth .result) (c .before .growth .ok) in
-    let eb = held (c .growth2 .result) (c .growth2 .ok) in
-    rw (ea, eb) (omega (arith, square (natAbs (c .before .growth .result)) (natAbs (c .growth2 .result)) (c .before .growth .ensures .1) (c .growth2 .ensures .1)))
+times-requires c κs = let x = rw (toZ-ofZ (c .before .before .fits .a), toZ-ofZ (c .before .before .fits .b)) at (c .before .minus .ensures .1) in
+    let y = rw (toZ-ofZ (c .before .before .fits .c), toZ-ofZ (c .before .before .fits .d)) at (c .minus2 .ensures .1) in
+    rw (held (c .before .minus .result) (c .before .minus .ok), held (c .minus2 .result) (c .minus2 .ok))
+    (omega (arith, square (natAbs (c .before .minus .result)) (natAbs (c .minus2 .result)) (omega (arith, x, c .before .before .pre .0, c .before .before .pre .1)) (omega (arith, y, c .before .before .pre .2, c .before .before .pre .3))))
 
 returns : tie.Need-returns
-unfolding productOf
-returns c = let ea = held (c .before .before .growth .result) (c .before .before .growth .ok) in
-    let eb = held (c .before .growth2 .result) (c .before .growth2 .ok) in
-    let q = rw (ea, eb) at (c .times .ensures .1) in
+returns c = let x = rw (toZ-ofZ (c .before .before .before .fits .a), toZ-ofZ (c .before .before .before .fits .b)) at (c .before .before .minus .ensures) in
+    let y = rw (toZ-ofZ (c .before .before .before .fits .c), toZ-ofZ (c .before .before .before .fits .d)) at (c .before .minus2 .ensures) in
+    let ex = held (c .before .before .minus .result) (c .before .before .minus .ok) in let ey = held (c .before .minus2 .result) (c .before .minus2 .ok) in
+    let q = rw (ex, ey) at (c .times .ensures) in
     rw (held (c .times .result) (c .times .ok)) (
-      c .times .ensures .0 ∙ ap₂ _*ℤ_ (ea ∙ c .before .before .growth .ensures .0) (eb ∙ c .before .growth2 .ensures .0),
-      omega (arith, q, square (natAbs (c .before .before .growth .result)) (natAbs (c .before .growth2 .result)) (c .before .before .growth .ensures .1) (c .before .growth2 .ensures .1)),
+      q .0 ∙ ap₂ _*ℤ_ (x .0) (y .0),
+      omega (arith, q .1, square (natAbs (c .before .before .minus .result)) (natAbs (c .before .minus2 .result)) (omega (arith, x .1, c .before .before .before .pre .0, c .before .before .before .pre .1)) (omega (arith, y .1, c .before .before .before .pre .2, c .before .before .before .pre .3))),
     )
 
 pub product-spec : {M : Type 1} → statement M
-product-spec = tie.close (tie.spec growth-requires growth-requires-2 times-requires returns)
+product-spec = tie.close (tie.spec minus-requires minus-requires-2 times-requires returns)

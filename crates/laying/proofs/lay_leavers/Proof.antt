@@ -1,7 +1,7 @@
 -- `laying::lay_leavers` meets its contract. The loop's invariant: the vertices passed have their words, the others are as they were. Assumes nothing.
 use native.Mathlib.Omega.{arith}
 use mathlib.Core.Path.{_≡_, _∙_, refl, subst}
-use Prim.Native.Nat.{ℕ, _-_, _*_, _+_, _≤_, _<_}
+use Prim.Native.Nat.{ℕ, _-_, _≤_}
 use lib.ListN.{length}
 use Rattle.tables.specs.Tables.{view}
 use Rattle.laying.specs.Turns.{Leavers, leavers-none, leavers-next}

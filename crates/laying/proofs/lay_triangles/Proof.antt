@@ -1,7 +1,7 @@
 -- `laying::lay_triangles` meets its contract. The loop's invariant: the triangles passed have their words, the others are as they were. Assumes nothing.
 use native.Mathlib.Omega.{arith}
 use mathlib.Core.Path.{_≡_, _∙_, refl, subst}
-use Prim.Native.Nat.{ℕ, _-_, _*_, _+_, _≤_, _<_}
+use Prim.Native.Nat.{ℕ, _-_, _*_, _≤_, _<_}
 use lib.ListN.{length}
 use Rattle.tables.specs.Tables.{view}
 use Rattle.laying.specs.Turns.{Ways, ways-none, ways-next}
@@ -37,7 +37,7 @@ loop-again c = let a = c .before .before .before .before .before .before .args i
   omega arith,
   omega (arith, c .before .before .before .loop-test .taken),
   c .before .lay-triangle .kept .1 .0 ∙ c .before .before .before .before .loop .inv .2,
-  ways-next (a .n) (a .triangles .now) (view (a .s .now)) (view (c .before .before .before .before .loop .s)) (c .before .before .before .before .loop .t) (c .before .before .before .before .loop .inv .3) (view (c .before .lay-triangle .last .1 .0)) (c .before .before .before .before .loop .inv .0) (c .before .lay-triangle .ensures),
+  ways-next (a .n) (a .triangles .now) (view (a .s .now)) (view (c .before .before .before .before .loop .s)) (c .before .before .before .before .loop .t) (c .before .before .before .before .loop .inv .3) (view (c .before .lay-triangle .last .1 .0)) (c .before .lay-triangle .ensures),
 )
 
 same-length : tie.Need-same-length Inv-loop μ-loop

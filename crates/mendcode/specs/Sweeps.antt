@@ -1,0 +1,46 @@
+-- The sweep of a raise on a mesh that is ready: it can be made, and it moves what the raise moves. Assumes nothing.
+use Prim.Native.Nat.{ℕ, _+_, _-_, _*_, _≤_, _<_}
+use mathlib.Core.Path.{_≡_, ap, _∙_}
+use mathlib.Core.Bool.{false}
+use mathlib.Core.List.{List}
+use lib.ListN.{length}
+use lib.IntN.{ℤ, pos, natAbs, _+ℤ_, _*ℤ_}
+use Rattle.definitions.specs.Backward.{coordinate}
+use Rattle.definitions.specs.Repair.{limit}
+use Rattle.definitions.specs.Refusals.{row10}
+use Rattle.realizer.specs.Units.{unit0, unit1}
+use Rattle.tables.specs.Tables.{view}
+use Rattle.raising.specs.Raised as raised
+use Rattle.raising.specs.Swept.{leads-in, moves-left, moves-right}
+use Rattle.raising.specs.Ready.{Ready, org-low, by-first, by-second}
+use Rattle.sweep.specs.Walks.{Sweepable, Moved}
+
+module _ (n : ℕ) (ts ls : List ℕ) (s : List ℤ) (Y : Ready n ts ls s) (t : ℕ) (above : 0 < t) (h : t < 2 * n - 4) where
+  pub sweepable : (bs : List ℤ) (x : ℤ) → 10 * n ≤ length s → length bs ≡ 3 * n → row10 bs ≡ false → natAbs x ≤ 2 * limit + 1 → Sweepable n ts s bs t x
+  sweepable bs x room long within light =
+      record {
+        least = Y .sphere .least;
+        most = Y .most;
+        room = room;
+        long = long;
+        within = within;
+        inside = h;
+        light = light;
+        first = org-low n ts ls s Y 0;
+        last = org-low n ts ls s Y 2;
+        words =
+            record {
+              on = leads-in ts ls (Y .sphere) (Y .size) (Y .realizer) (Y .tables) (Y .stored) (Y .across-is) (Y .tag-is) (Y .last) (Y .first) (Y .most) (view s) (Y .planted);
+              left = moves-left ts ls (Y .sphere) (Y .size) (Y .realizer) (Y .tables) (Y .stored) (Y .across-is) (Y .tag-is) (Y .last) (Y .first) (Y .most) (view s) (Y .planted);
+              right = moves-right ts ls (Y .sphere) (Y .size) (Y .realizer) (Y .tables) (Y .stored) (Y .across-is) (Y .tag-is) (Y .last) (Y .first) (Y .most) (view s) (Y .planted);
+            };
+      }
+
+  pub swept-moved : (x : ℤ) (bs bs′ : List ℤ) → Moved n ts (view s) t x bs bs′ → raised.Moved n (unit0 n ts ls t) (unit1 n ts ls t) x bs bs′
+  swept-moved x bs bs′ M =
+      record {
+        long = M .long;
+        more0 = λ i k. M .zeroth i k ∙ ap (λ (m : ℕ). coordinate bs 0 i +ℤ pos m *ℤ x) (by-first n ts ls s Y t above h i k);
+        more1 = λ i k. M .oneth i k ∙ ap (λ (m : ℕ). coordinate bs 1 i +ℤ pos m *ℤ x) (by-second n ts ls s Y t above h i k);
+        same2 = M .second;
+      }

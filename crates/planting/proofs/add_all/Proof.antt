@@ -1,0 +1,56 @@
+-- `planting::add_all` meets its contract. The loop's invariant: so many steps of the pass are done. Assumes nothing.
+use native.Mathlib.Omega.{arith}
+use mathlib.Core.Path.{_≡_, refl}
+use Prim.Native.Nat.{_-_, _≤_}
+use Rattle.planting.specs.Passes.{upward, add}
+use Rattle.planting.specs.Turns.{Up, up-next, up-sowable, parent-low, odd-add}
+use Rattle.planting.proofs.add_all.Statement.{statement}
+use Rattle.planting.proofs.add_all.Tie as tie
+
+abbrev Inv-loop : tie.InvT-loop
+Inv-loop n s₀ colour k₀ s k = (k ≤ n - 2) × Up (add colour) s₀ s k
+
+abbrev μ-loop : tie.MeasureT-loop
+μ-loop n s₀ colour k₀ s k = n - 2 - k
+
+loop-holds : tie.Need-loop-holds Inv-loop μ-loop
+unfolding upward
+loop-holds c = (omega arith, record { long = refl; is = refl })
+
+sub-loop : tie.Need-sub-loop Inv-loop μ-loop
+sub-loop c = omega (arith, c .before .pre .some)
+
+add-requires : tie.Need-add-requires Inv-loop μ-loop
+add-requires c κs = let a = c .before .before .before .args in let l = c .before .before .loop in
+    let P = up-sowable (add (a .colour)) (a .s .now) (l .s) (l .k) (l .inv .1) (a .n) (odd-add (a .colour)) (c .before .before .before .pre) in
+    (omega (arith, P .few, c .before .loop-test .taken), omega (arith, parent-low (a .colour) (l .k) P (c .before .loop-test .taken), P .room))
+
+add-k : tie.Need-add-k Inv-loop μ-loop
+add-k c = omega (arith, c .before .before .before .before .before .pre .few, c .before .before .before .loop-test .taken)
+
+loop-less : tie.Need-loop-less Inv-loop μ-loop
+loop-less c = omega (arith, c .before .before .before .loop-test .taken)
+
+loop-again : tie.Need-loop-again Inv-loop μ-loop
+loop-again c = let a = c .before .before .before .before .before .args in let l = c .before .before .before .before .loop in (omega (arith, c .before .before .before .loop-test .taken), up-next (add (a .colour)) (a .s .now) (l .s) (l .k) (l .inv .1) (c .before .add .last .0) (c .before .add .kept .0) (c .before .add .ensures))
+
+same-length : tie.Need-same-length Inv-loop μ-loop
+same-length c = c .before .loop .inv .1 .long
+
+returns : tie.Need-returns Inv-loop μ-loop
+returns c = let e : c .before .loop .k ≡ c .before .before .args .n - 2 = omega (arith, c .before .loop .inv .0, c .loop-test .left) in rw e at (c .before .loop .inv .1 .is)
+
+pub add-all-spec : {M : Type 1} → statement M
+add-all-spec =
+    tie.close
+    (tie.spec
+    Inv-loop
+    μ-loop
+    loop-holds
+    sub-loop
+    add-requires
+    add-k
+    loop-less
+    loop-again
+    same-length
+    returns)

@@ -1,0 +1,2 @@
+-- The third coordinates of all vertices.
+pub mod Thirds
