@@ -1,5 +1,5 @@
 -- An accepted mesh always gets labels: the second demand's last words, over the peeling of document 01. Assumes nothing.
-use Prim.Native.Nat.{ℕ, _*_, _-_, _+_, _/_, _≤_, _<_}
+use Prim.Native.Nat.{ℕ, _-_, _+_, _≤_, _<_}
 use mathlib.Core.Path.{_≡_, sym, _∙_}
 use mathlib.Core.List.{List, [], _∷_}
 use mathlib.Core.Option.{some}

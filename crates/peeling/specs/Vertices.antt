@@ -8,11 +8,11 @@ use native.Mathlib.Omega.{arith}
 use lib.Dec.{eqb}
 use lib.ListN.{length, length-map}
 use borrow.Author.Tests.{eqb-true, eqb-false, eq-eqb, ne-eqb, not-true}
-use Rattle.definitions.specs.Words.{upto, all, keep, elem, front}
-use Rattle.definitions.specs.Mesh.{next, prev, org, tip, darts, opp, rot, turns, leaving}
+use Rattle.definitions.specs.Words.{all, keep, elem, front}
+use Rattle.definitions.specs.Mesh.{next, prev, org, tip, opp, rot, turns, leaving}
 use Rattle.definitions.specs.Labels.{Peeling, before, after, replace, outer, seen, removable, side, fan, remove}
-use Rattle.laws.specs.Lists.{_∈_, and-both, or-either, or-left, or-right, all-true, true-all, keep-in, in-keep, upto-in, in-upto, elem-true, true-elem, elem-false, false-elem, seek-only, front-snoc}
-use Rattle.laws.specs.Counting.{Distinct, nil, cons, distinct-within, distinct-full, distinct-keep, distinct-upto}
+use Rattle.laws.specs.Lists.{_∈_, and-both, or-either, or-left, or-right, all-true, true-all, keep-in, in-keep, elem-true, true-elem, elem-false, false-elem, seek-only, front-snoc}
+use Rattle.laws.specs.Counting.{Distinct, nil, cons, distinct-within, distinct-full, distinct-keep}
 use Rattle.laws.specs.Mapped.{map-append, keep-map}
 use Rattle.laws.specs.Edges.{dist-same}
 use Rattle.sphere.specs.Rows.{leaving-in, in-leaving, distinct-leaving}

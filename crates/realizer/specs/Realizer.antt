@@ -1,6 +1,6 @@
 -- The rules that labels of corners, and the colours that they give to sides, keep on a sphere: a Schnyder realizer. Assumes nothing.
 -- `label` gives the label of a corner, and `v c` the outer vertex v_c. The maps need nothing else of labels.
-use Prim.Native.Nat.{ℕ, zero, suc, _*_, _<_}
+use Prim.Native.Nat.{ℕ, _*_, _<_}
 use mathlib.Core.Path.{_≡_}
 use mathlib.Core.Logic.{_≢_, _⊎_}
 use mathlib.Core.List.{List, [], _∷_, List·Memᴰ}

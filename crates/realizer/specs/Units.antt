@@ -1,5 +1,5 @@
 -- The maps of unit weights, 1 on one inner triangle u and 0 elsewhere: what the coordinates of any weights are summed from. Assumes nothing.
-use Prim.Native.Nat.{ℕ, _+_, _*_, _/_, _≤_, _<_}
+use Prim.Native.Nat.{ℕ, _+_, _/_, _≤_, _<_}
 use mathlib.Core.Path.{_≡_}
 use mathlib.Core.Bool.{Bool, cond}
 use mathlib.Core.List.{List}

@@ -1,7 +1,7 @@
 -- What a text that is read comes to, in numbers: a job has 3 to 256 vertices, and a line that breaks the layout is one of its lines or the one after them.
 -- Assumes nothing.
 use Prim.Native.Nat.{ℕ, zero, suc, _+_, _-_, _*_, _≤_, _<_}
-use mathlib.Core.Path.{_≡_, refl, sym, _∙_}
+use mathlib.Core.Path.{_≡_, refl}
 use mathlib.Core.Bool.{Bool, true, false}
 use mathlib.Core.List.{List, [], _∷_}
 use mathlib.Core.Option.{Option, none, some}
@@ -13,7 +13,6 @@ use borrow.Author.Tests.{ltb-false}
 use Rattle.definitions.specs.Answers.{Answer, done, refused, plain, after, outside, broken}
 use Rattle.definitions.specs.Refusals.{row1}
 use Rattle.definitions.specs.Job.{Cut, cut, fields, Read, got, breaks, readLine, readLines, headLine, triangleLine, weightLine, Job, readBody, readJob}
-use Rattle.textlaws.specs.Reading.{flat, withWeights, withTriangles, job-body, job-few, job-many, job-broken, job-long, lines-broken, lines-more}
 
 breaks-same : {A : Type 0} (k l : ℕ) → _≡_ {A = Read A} (breaks k) (breaks l) → l ≡ k
 breaks-same k l e = cc
