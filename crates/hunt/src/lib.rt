@@ -122,7 +122,7 @@ fn lowest(s: &[i64], coordinates: &[i64], steps: usize, full: usize, t: usize) -
 
 // the first bad triangle after a raise of t, below which none was bad; `to`, if there is none. Those below `full` are not looked at. There are `to` triangles.
 pub fn next_bad(s: &[i64], coordinates: &[i64], full: usize, t: usize, to: usize) -> usize
-    requires { ⌜ (full ≤ t) × (0 < full) × (t ≤ to) × (to < 65536) × (row10 (now coordinates) ≡ false) ⌝ }
+    requires { ⌜ (full ≤ t) × (t ≤ to) × (to < 65536) × (row10 (now coordinates) ≡ false) ⌝ }
     ensures { λ r. ⌜ Next (view (now (s .entry))) (now (coordinates .entry)) full t to r ⌝ }
 {
     let low = lowest(s, coordinates, to, full, t);

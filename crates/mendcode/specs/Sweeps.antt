@@ -10,10 +10,10 @@ use Rattle.definitions.specs.Repair.{limit}
 use Rattle.definitions.specs.Refusals.{row10}
 use Rattle.realizer.specs.Units.{unit0, unit1}
 use Rattle.tables.specs.Tables.{view}
-use Rattle.raising.specs.Raised as raised
+use Rattle.raising.specs.Raised.{Moved}
 use Rattle.raising.specs.Swept.{leads-in, moves-left, moves-right}
 use Rattle.raising.specs.Ready.{Ready, org-low, by-first, by-second}
-use Rattle.sweep.specs.Walks.{Sweepable, Moved}
+use Rattle.sweep.specs.Walks.{Sweepable, WalkMoved}
 
 module _ (n : ℕ) (ts ls : List ℕ) (s : List ℤ) (Y : Ready n ts ls s) (t : ℕ) (above : 0 < t) (h : t < 2 * n - 4) where
   pub sweepable : (bs : List ℤ) (x : ℤ) → 10 * n ≤ length s → length bs ≡ 3 * n → row10 bs ≡ false → natAbs x ≤ 2 * limit + 1 → Sweepable n ts s bs t x
@@ -36,11 +36,11 @@ module _ (n : ℕ) (ts ls : List ℕ) (s : List ℤ) (Y : Ready n ts ls s) (t : 
             };
       }
 
-  pub swept-moved : (x : ℤ) (bs bs′ : List ℤ) → Moved n ts (view s) t x bs bs′ → raised.Moved n (unit0 n ts ls t) (unit1 n ts ls t) x bs bs′
+  pub swept-moved : (x : ℤ) (bs bs′ : List ℤ) → WalkMoved n ts (view s) t x bs bs′ → Moved n (unit0 n ts ls t) (unit1 n ts ls t) x bs bs′
   swept-moved x bs bs′ M =
       record {
         long = M .long;
-        more0 = λ i k. M .zeroth i k ∙ ap (λ (m : ℕ). coordinate bs 0 i +ℤ pos m *ℤ x) (by-first n ts ls s Y t above h i k);
-        more1 = λ i k. M .oneth i k ∙ ap (λ (m : ℕ). coordinate bs 1 i +ℤ pos m *ℤ x) (by-second n ts ls s Y t above h i k);
-        same2 = M .second;
+        more0 = λ i k. M .more0 i k ∙ ap (λ (m : ℕ). coordinate bs 0 i +ℤ pos m *ℤ x) (by-first n ts ls s Y t above h i k);
+        more1 = λ i k. M .more1 i k ∙ ap (λ (m : ℕ). coordinate bs 1 i +ℤ pos m *ℤ x) (by-second n ts ls s Y t above h i k);
+        same2 = M .same2;
       }

@@ -15,7 +15,7 @@ use Rattle.laws.specs.Lists.{getD-in, totalAbs-in, totalAbs-set}
 use Rattle.tables.specs.Tables.{view}
 use Rattle.raising.specs.Hunt.{raiseAt}
 use Rattle.raising.specs.Ready.{Ready}
-use Rattle.sweep.specs.Walks.{Sweepable, Moved}
+use Rattle.sweep.specs.Walks.{Sweepable, WalkMoved}
 
 -- ---- weights
 
@@ -69,13 +69,13 @@ pub record Raisable (n : ℕ) (ts : List ℕ) (ws bs s : List ℤ) (t sum : ℕ)
 pub record Tried (n : ℕ) (ts : List ℕ) (s ws bs ws′ bs′ : List ℤ) (t r : ℕ) : Type 0 where
   pub sum : r ≡ totalAbs (addTo ws t (raiseAt (view s) bs t))
   pub kept : limit < r → (ws′ ≡ ws) × (bs′ ≡ bs)
-  pub made : r ≤ limit → (ws′ ≡ addTo ws t (raiseAt (view s) bs t)) × Moved n ts (view s) t (raiseAt (view s) bs t) bs bs′
+  pub made : r ≤ limit → (ws′ ≡ addTo ws t (raiseAt (view s) bs t)) × WalkMoved n ts (view s) t (raiseAt (view s) bs t) bs bs′
 
 module _ (n : ℕ) (ts : List ℕ) (s ws bs : List ℤ) (t r : ℕ) (x : ℤ) (ex : x ≡ raiseAt (view s) bs t) (er : r ≡ totalAbs (addTo ws t x)) where
   pub tried-kept : limit < r → Tried n ts s ws bs ws bs t r
   tried-kept h = record { sum = rw ex at er; kept = λ l. (refl, refl); made = λ l. absurd (omega arith) }
 
-  pub tried-made : (ws′ bs′ : List ℤ) → r ≤ limit → ws′ ≡ addTo ws t x → Moved n ts (view s) t x bs bs′ → Tried n ts s ws bs ws′ bs′ t r
+  pub tried-made : (ws′ bs′ : List ℤ) → r ≤ limit → ws′ ≡ addTo ws t x → WalkMoved n ts (view s) t x bs bs′ → Tried n ts s ws bs ws′ bs′ t r
   tried-made ws′ bs′ h ew G = record { sum = rw ex at er; kept = λ l. absurd (omega arith); made = λ l. (rw ex at ew, rw ex at G) }
 
 -- ---- the whole loop

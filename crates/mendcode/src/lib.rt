@@ -3,12 +3,10 @@
 // would break 9 is not made.
 ghost use mathlib.Core.Path.{_≡_};
 ghost use mathlib.Core.List.{List};
-ghost use Prim.Native.Nat.{ℕ, _+_, _-_, _*_, _<_, _≤_};
-ghost use lib.ListN.{length, getD, set};
-ghost use lib.IntN.{pos, natAbs, _+ℤ_};
+ghost use Prim.Native.Nat.{ℕ, _<_, _≤_};
 ghost use Rattle.definitions.specs.Words.{totalAbs};
 ghost use Rattle.definitions.specs.Forward.{forward};
-ghost use Rattle.definitions.specs.Repair.{limit, addTo};
+ghost use Rattle.definitions.specs.Repair.{addTo};
 ghost use Rattle.raising.specs.Ready.{Ready};
 ghost use Rattle.raising.specs.Mends.{Passed};
 ghost use Rattle.mendcode.specs.Trying.{Summable, Raisable, Tried, Mendable};
@@ -18,15 +16,6 @@ ghost use Rattle.mendcode.specs.Told.{Halts, Ends};
 pub enum Ended {
     Mended(usize),
     Stopped(usize),
-}
-
-// x more at entry i
-fn add_at(numbers: &mut [i64], i: usize, x: i64)
-    requires { ⌜ (i < length (now numbers)) × (natAbs (getD (now numbers) i (pos 0)) ≤ limit) × (natAbs x ≤ 2 * limit + 1) ⌝ }
-    ensures { λ r. ⌜ now (numbers .exit) ≡ set (now (numbers .entry)) i (getD (now (numbers .entry)) i (pos 0) +ℤ x) ⌝ }
-{
-    let a = whole::at(numbers, i);
-    whole::put(numbers, i, whole::plus(a, x));
 }
 
 // the sum of the absolute values once the weight of triangle t is raised by x
@@ -59,7 +48,7 @@ fn try_raise(
     if new > 1_073_741_823 {
         return new;
     }
-    add_at(weights, t - 1, x);
+    sweep::add_at(weights, t - 1, x);
     sweep::sweep(n, triangles, s, coordinates, t, x);
     new
 }

@@ -18,6 +18,7 @@ use Rattle.realizer.specs.Units.{bit}
 use Rattle.tables.specs.Tables.{Tables, cell, column, view, count-in}
 use Rattle.limits.specs.Limits.{range}
 use Rattle.raising.specs.Laid.{part0, part1, part2, part3}
+use Rattle.raising.specs.Raised.{Moved}
 use Rattle.raising.specs.Swept.{swept, moved, swept-home, swept-on, moved-yes, moved-no}
 use Rattle.sweep.specs.Moving.{none, More, more-none, more-then, more-same, single, more-set, Small, small-later, small-set}
 use Rattle.sweep.specs.Rows.{along, manyAdded, Rowable, count-row, mark-row, mark-cell}
@@ -45,12 +46,9 @@ pub record Sweepable (n : ℕ) (ts : List ℕ) (s bs : List ℤ) (t : ℕ) (x : 
   pub words : Words n (view s)
 
 -- each vertex has x more as often as the walk comes by it, v1 in coordinate 1 and v0 in coordinate 0 once more
-pub record Moved (n : ℕ) (ts : List ℕ) (S : Tables) (t : ℕ) (x : ℤ) (bs bs′ : List ℤ) : Type 0 where
-  pub long : length bs′ ≡ length bs
-  pub zeroth : (i : ℕ) → i < n →
-      coordinate bs′ 0 i ≡ coordinate bs 0 i +ℤ pos (swept 2 (λ j. S .mark (2 * j)) (S .op) (2 * n - 4) t i + bit (eqb i (org ts 0))) *ℤ x
-  pub oneth : (i : ℕ) → i < n → coordinate bs′ 1 i ≡ coordinate bs 1 i +ℤ pos (swept 1 (S .count) (S .op) (2 * n - 4) t i + bit (eqb i (org ts 2))) *ℤ x
-  pub second : (i : ℕ) → i < n → coordinate bs′ 2 i ≡ coordinate bs 2 i
+abbrev pub WalkMoved : ℕ → List ℕ → Tables → ℕ → ℤ → List ℤ → List ℤ → Type 0
+WalkMoved n ts S t x =
+    Moved n (λ i. swept 2 (λ j. S .mark (2 * j)) (S .op) (2 * n - 4) t i + bit (eqb i (org ts 0))) (λ i. swept 1 (S .count) (S .op) (2 * n - 4) t i + bit (eqb i (org ts 2))) x
 
 -- ---- one word
 
@@ -375,20 +373,20 @@ module _ (n : ℕ) (ts : List ℕ) (s bs : List ℤ) (t : ℕ) (x : ℤ) (Y : Sw
         omega (arith, first-small .small (3 * v1 + 1), Y .light, Y .most),
       )
 
-      pub moved-all : (bs₃ : List ℤ) → bs₃ ≡ set bs₂ (3 * v1 + 1) (getD bs₂ (3 * v1 + 1) (pos 0) +ℤ x) → Moved n ts (view s) t x bs bs₃
+      pub moved-all : (bs₃ : List ℤ) → bs₃ ≡ set bs₂ (3 * v1 + 1) (getD bs₂ (3 * v1 + 1) (pos 0) +ℤ x) → WalkMoved n ts (view s) t x bs bs₃
       unfolding amount
       moved-all bs₃ made′ =
           let S = view s in
           let A = more-then (more-then (W .more) first-more) (more-set x bs₂ bs₃ 1 v1 (omega arith) (last-room .0) made′) in
           record {
             long = A .long;
-            zeroth = λ i h.
+            more0 = λ i h.
                 let e : swept 2 (λ j. S .mark (2 * j)) (S .op) (2 * n - 4) t i + bit (eqb v0 i) + 0 ≡ swept 2 (λ j. S .mark (2 * j)) (S .op) (2 * n - 4) t i + bit (eqb i (org ts 0)) =
                 omega (arith, bit-turned v0 i, ap (λ (v : ℕ). bit (eqb i v)) e0) in
                 A .more 0 i (omega arith) (omega (arith, Y .long)) ∙ ap (λ (m : ℕ). coordinate bs 0 i +ℤ pos m *ℤ x) e;
-            oneth = λ i h.
+            more1 = λ i h.
                 let e : swept 1 (S .count) (S .op) (2 * n - 4) t i + 0 + bit (eqb v1 i) ≡ swept 1 (S .count) (S .op) (2 * n - 4) t i + bit (eqb i (org ts 2)) =
                 omega (arith, bit-turned v1 i, ap (λ (v : ℕ). bit (eqb i v)) e1) in
                 A .more 1 i (omega arith) (omega (arith, Y .long)) ∙ ap (λ (m : ℕ). coordinate bs 1 i +ℤ pos m *ℤ x) e;
-            second = λ i h. A .more 2 i (omega arith) (omega (arith, Y .long)) ∙ sym (none (coordinate bs 2 i) x);
+            same2 = λ i h. A .more 2 i (omega arith) (omega (arith, Y .long)) ∙ sym (none (coordinate bs 2 i) x);
           }

@@ -14,7 +14,7 @@ ghost use Rattle.tables.specs.Tables.{cell, view};
 ghost use Rattle.raising.specs.Laid.{part0};
 ghost use Rattle.sweep.specs.Moving.{More, Small};
 ghost use Rattle.sweep.specs.Rows.{along, Rowable};
-ghost use Rattle.sweep.specs.Walks.{rowAt, Movable, Followed, Walkable, Walked, Sweepable, Moved};
+ghost use Rattle.sweep.specs.Walks.{rowAt, Movable, Followed, Walkable, Walked, Sweepable, WalkMoved};
 
 // the entry at place p
 fn entry(s: &[i64], p: usize) -> usize
@@ -25,7 +25,7 @@ fn entry(s: &[i64], p: usize) -> usize
 }
 
 // x more at place i
-fn add_at(numbers: &mut [i64], i: usize, x: i64)
+pub fn add_at(numbers: &mut [i64], i: usize, x: i64)
     requires { ⌜ (i < length (now numbers)) × (natAbs (getD (now numbers) i (pos 0)) + natAbs x < 2 ^ 63) ⌝ }
     ensures { λ r. ⌜ now (numbers .exit) ≡ set (now (numbers .entry)) i (getD (now (numbers .entry)) i (pos 0) +ℤ x) ⌝ }
 {
@@ -101,7 +101,7 @@ fn walk(s: &[i64], coordinates: &mut [i64], steps: usize, t: usize, x: i64)
 // x more in the coordinates of which the weight of triangle t is part, but for coordinate 2
 pub fn sweep(n: usize, triangles: &[u16], s: &[i64], coordinates: &mut [i64], t: usize, x: i64)
     requires { ⌜ Sweepable n (now triangles) (now s) (now coordinates) t x ⌝ }
-    ensures { λ r. ⌜ Moved n (now (triangles .entry)) (view (now (s .entry))) t x (now (coordinates .entry)) (now (coordinates .exit)) ⌝ }
+    ensures { λ r. ⌜ WalkMoved n (now (triangles .entry)) (view (now (s .entry))) t x (now (coordinates .entry)) (now (coordinates .exit)) ⌝ }
 {
     walk(s, coordinates, 2 * n - 4, t, x);
     let v0 = vertex(triangles, 0);

@@ -42,7 +42,7 @@ add-count : tie.Need-add-count Inv-loop μ-loop
 add-count c = let a = c .before .before .before .before .before .before .before .before .before .before .before .args in omega (arith, fueled (a .n) (a .triangles .now) (a .s .now) (a .weights .now) (a .coordinates .now) (a .sum) (c .before .before .before .before .before .before .before .before .before .before .before .pre) (c .before .before .before .before .before .before .before .loop .weights) (c .before .before .before .before .before .before .before .loop .coordinates) (c .before .before .before .before .before .before .before .loop .total) (c .before .before .before .before .before .before .before .loop .count) (c .before .before .before .before .before .before .before .loop .full) (c .before .before .before .before .before .before .before .loop .t) (c .before .before .before .before .before .before .before .loop .inv), start-some (a .n) (a .triangles .now) (a .weights .now) (a .coordinates .now) (a .s .now) (a .sum) (c .before .before .before .before .before .before .before .before .before .before .before .pre))
 
 next-bad-requires : tie.Need-next-bad-requires Inv-loop μ-loop
-next-bad-requires c κs = let a = c .before .before .before .before .before .before .before .before .before .before .before .before .args in let S = now (a .n) (a .triangles .now) (a .s .now) (a .weights .now) (a .coordinates .now) (a .sum) (c .before .before .before .before .before .before .before .before .before .before .before .before .pre) (c .before .before .before .before .before .before .before .before .loop .weights) (c .before .before .before .before .before .before .before .before .loop .coordinates) (c .before .before .before .before .before .before .before .before .loop .total) (c .before .before .before .before .before .before .before .before .loop .count) (c .before .before .before .before .before .before .before .before .loop .full) (c .before .before .before .before .before .before .before .before .loop .t) (c .before .before .before .before .before .before .before .before .loop .inv) in (S .lower, S .positive, omega (arith, c .before .before .before .before .before .before .before .loop-test .taken), omega (arith, start-some (a .n) (a .triangles .now) (a .weights .now) (a .coordinates .now) (a .s .now) (a .sum) (c .before .before .before .before .before .before .before .before .before .before .before .before .pre)), next-within (a .n) (a .triangles .now) (a .s .now) (a .weights .now) (a .coordinates .now) (a .sum) (c .before .before .before .before .before .before .before .before .before .before .before .before .pre) (c .before .before .before .before .before .before .before .before .loop .weights) (c .before .before .before .before .before .before .before .before .loop .coordinates) (c .before .before .before .before .before .before .before .before .loop .total) (c .before .before .before .before .before .before .before .before .loop .count) (c .before .before .before .before .before .before .before .before .loop .full) (c .before .before .before .before .before .before .before .before .loop .t) (c .before .before .before .before .before .before .before .before .loop .inv) (c .before .before .before .before .before .before .before .loop-test .taken) (c .before .before .before .before .try-raise .last .1 .1 .0) (c .before .before .before .before .try-raise .last .1 .1 .1 .0) (c .before .before .before .before .try-raise .result) (c .before .before .before .before .try-raise .ensures) (omega (arith, c .before .if1 .left)))
+next-bad-requires c κs = let a = c .before .before .before .before .before .before .before .before .before .before .before .before .args in let S = now (a .n) (a .triangles .now) (a .s .now) (a .weights .now) (a .coordinates .now) (a .sum) (c .before .before .before .before .before .before .before .before .before .before .before .before .pre) (c .before .before .before .before .before .before .before .before .loop .weights) (c .before .before .before .before .before .before .before .before .loop .coordinates) (c .before .before .before .before .before .before .before .before .loop .total) (c .before .before .before .before .before .before .before .before .loop .count) (c .before .before .before .before .before .before .before .before .loop .full) (c .before .before .before .before .before .before .before .before .loop .t) (c .before .before .before .before .before .before .before .before .loop .inv) in (S .lower, omega (arith, c .before .before .before .before .before .before .before .loop-test .taken), omega (arith, start-some (a .n) (a .triangles .now) (a .weights .now) (a .coordinates .now) (a .s .now) (a .sum) (c .before .before .before .before .before .before .before .before .before .before .before .before .pre)), next-within (a .n) (a .triangles .now) (a .s .now) (a .weights .now) (a .coordinates .now) (a .sum) (c .before .before .before .before .before .before .before .before .before .before .before .before .pre) (c .before .before .before .before .before .before .before .before .loop .weights) (c .before .before .before .before .before .before .before .before .loop .coordinates) (c .before .before .before .before .before .before .before .before .loop .total) (c .before .before .before .before .before .before .before .before .loop .count) (c .before .before .before .before .before .before .before .before .loop .full) (c .before .before .before .before .before .before .before .before .loop .t) (c .before .before .before .before .before .before .before .before .loop .inv) (c .before .before .before .before .before .before .before .loop-test .taken) (c .before .before .before .before .try-raise .last .1 .1 .0) (c .before .before .before .before .try-raise .last .1 .1 .1 .0) (c .before .before .before .before .try-raise .result) (c .before .before .before .before .try-raise .ensures) (omega (arith, c .before .if1 .left)))
 
 passed-requires : tie.Need-passed-requires Inv-loop μ-loop
 passed-requires c κs = let a = c .before .before .before .before .before .before .before .before .before .before .before .before .before .args in (now (a .n) (a .triangles .now) (a .s .now) (a .weights .now) (a .coordinates .now) (a .sum) (c .before .before .before .before .before .before .before .before .before .before .before .before .before .pre) (c .before .before .before .before .before .before .before .before .before .loop .weights) (c .before .before .before .before .before .before .before .before .before .loop .coordinates) (c .before .before .before .before .before .before .before .before .before .loop .total) (c .before .before .before .before .before .before .before .before .before .loop .count) (c .before .before .before .before .before .before .before .before .before .loop .full) (c .before .before .before .before .before .before .before .before .before .loop .t) (c .before .before .before .before .before .before .before .before .before .loop .inv) .lower, omega (arith, c .before .before .before .before .before .before .before .before .loop-test .taken, start-some (a .n) (a .triangles .now) (a .weights .now) (a .coordinates .now) (a .s .now) (a .sum) (c .before .before .before .before .before .before .before .before .before .before .before .before .before .pre)))

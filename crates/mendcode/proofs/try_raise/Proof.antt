@@ -32,7 +32,7 @@ sub-add-at c = search needs
 add-at-requires : tie.Need-add-at-requires
 add-at-requires c κs = let a = c .before .before .before .before .before .before .before .args in let h = c .before .before .before .before .before .before .before .pre .positive in let k = c .before .before .before .before .before .before .before .pre .inside in
     rw (held (c .before .before .before .before .raise-at .result) (c .before .before .before .before .raise-at .ok))
-    (omega (arith, h, k), weight-light (a .weights .now) (a .t - 1) (omega (arith, h, k)) (c .before .before .before .before .before .before .before .pre .light), rw (c .before .before .before .before .raise-at .ensures .0) (c .before .before .before .before .before .before .before .pre .small))
+    (omega (arith, h, k), rw (c .before .before .before .before .raise-at .ensures .0) (omega (arith, weight-light (a .weights .now) (a .t - 1) (omega (arith, h, k)) (c .before .before .before .before .before .before .before .pre .light), c .before .before .before .before .before .before .before .pre .small)))
 
 sweep-requires : tie.Need-sweep-requires
 sweep-requires c κs = rw (held (c .before .before .before .before .before .before .before .raise-at .result) (c .before .before .before .before .before .before .before .raise-at .ok), c .before .before .before .before .before .before .before .raise-at .ensures .0) (c .before .before .before .before .before .before .before .before .before .before .pre .sweepable)
