@@ -8,7 +8,7 @@
 #include <float.h>
 #include <math.h>
 
-#include "calls_c.h"
+#include "hashcliff.h"
 #include "shells.h"
 #include "watched.h"
 

@@ -1,7 +1,7 @@
 /* Faults planted in the six calls. */
 #include "planted.h"
 
-#include "calls_c.h"
+#include "hashcliff.h"
 
 /* The parameters of a call, and its arguments. */
 #define MESH size_t n, const uint16_t *triangles, size_t triangles_len

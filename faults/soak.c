@@ -9,7 +9,7 @@
 #include <stdio.h>
 #include <stdlib.h>
 
-#include "calls_c.h"
+#include "hashcliff.h"
 #include "packmap.h"
 #include "shells.h"
 

@@ -1,4 +1,4 @@
-/* The call for the host service: a job text in, a listing out. Proved in crates/job. */
+/* The call for the host service: a job text in, a listing out. Proved in crates/job_call. */
 #ifndef PACKMAP_H
 #define PACKMAP_H
 

@@ -1,4 +1,4 @@
-//! The proved calls by name, where their library is built: `calls_c`, and `job`
+//! The proved calls by name, where their library is built: `hashcliff`, and `job_call`
 //! for the whole job.
 
 use crate::Call;
@@ -12,7 +12,7 @@ mod calls;
 mod host;
 
 #[cfg(proved)]
-fn of_calls_c(name: &str) -> Option<Call> {
+fn of_hashcliff(name: &str) -> Option<Call> {
     use crate::answer;
     let call: Call = match name {
         "check" => |_, l| answer(calls::check(l.n, &l.triangles, &mut l.scratch)),
@@ -59,7 +59,7 @@ fn of_calls_c(name: &str) -> Option<Call> {
 }
 
 #[cfg(not(proved))]
-fn of_calls_c(_: &str) -> Option<Call> {
+fn of_hashcliff(_: &str) -> Option<Call> {
     None
 }
 
@@ -76,6 +76,6 @@ fn of_job() -> Option<Call> {
 pub fn call(name: &str) -> Option<Call> {
     match name {
         "job" => of_job(),
-        _ => of_calls_c(name),
+        _ => of_hashcliff(name),
     }
 }

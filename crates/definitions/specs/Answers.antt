@@ -7,16 +7,16 @@ use lib.Ieee.{Float}
 
 -- A refusal carries its number only; 13 adds the count of raises so far, 16 its share, 17 the line.
 pub data Refusal : Type 0 where
-  plain : ℕ → Refusal
-  after : ℕ → Refusal
-  outside : Float → Refusal
-  broken : ℕ → Refusal
+  numbered : ℕ → Refusal
+  stoppedAfter : ℕ → Refusal
+  shareOutside : Float → Refusal
+  lineBroken : ℕ → Refusal
 
 abbrev pub number : Refusal → ℕ
-number (plain k) = k
-number (after count) = 13
-number (outside share) = 16
-number (broken line) = 17
+number (numbered k) = k
+number (stoppedAfter count) = 13
+number (shareOutside share) = 16
+number (lineBroken line) = 17
 
 pub data Answer (A : Type 0) : Type 0 where
   done : A → Answer A
@@ -27,11 +27,11 @@ pub data Row : Type 0 where
   row : ℕ → (Unit {0} → Bool) → Row
 
 -- the number of the first row that finds something, each asked only where those before it found nothing
-unfoldable pub ask : List Row → Option ℕ
-ask [] = none
-ask (row k test ∷ rows) = elim (test tt) [ true ↦ some k | false ↦ ask rows ]
+unfoldable pub firstRefusal : List Row → Option ℕ
+firstRefusal [] = none
+firstRefusal (row k test ∷ rows) = elim (test tt) [ true ↦ some k | false ↦ firstRefusal rows ]
 
 -- the answer that goes with it
-abbrev pub verdict : {A : Type 0} → A → Option ℕ → Answer A
-verdict x none = done x
-verdict x (some k) = refused (plain k)
+abbrev pub answerOf : {A : Type 0} → A → Option ℕ → Answer A
+answerOf x none = done x
+answerOf x (some k) = refused (numbered k)

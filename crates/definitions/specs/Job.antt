@@ -1,5 +1,5 @@
--- Document 01, "Job text and packmap": the layout of a job, its reading, the listing, and the whole outcome of the call for the host service. Definitions only.
--- A text is the list of its bytes.
+-- Document 01, "Job text and packmap": the layout of a job, its reading, the listing, and the whole outcome of the call for the host service. Definitions
+-- only. A text is the list of its bytes.
 use Prim.Native.Nat.{ℕ, zero, suc, _+_, _-_, _*_, _/_, _%_}
 use Prim.Native.Char.{code}
 use Prim.Native.String.{String}
@@ -9,8 +9,8 @@ use mathlib.Core.Option.{Option, none, some}
 use lib.Dec.{leb, ltb, eqb}
 use lib.ListN.{length, replicate, drop}
 use lib.IntN.{ℤ, pos, negsuc}
-use Rattle.definitions.specs.Words.{upto, all, total}
-use Rattle.definitions.specs.Answers.{Refusal, plain, after, outside, broken, number, Answer, done, refused}
+use Rattle.definitions.specs.Lists.{upto, all, total}
+use Rattle.definitions.specs.Answers.{Refusal, numbered, stoppedAfter, shareOutside, lineBroken, number, Answer, done, refused}
 use Rattle.definitions.specs.Mesh.{coordinatesLength, scratchLength}
 use Rattle.definitions.specs.Backward.{coordinate}
 use Rattle.definitions.specs.Refusals.{row1, Repaired, repairCall}
@@ -41,16 +41,16 @@ sameBytes (a ∷ as′) (b ∷ bs) = eqb a b && sameBytes as′ bs
 -- ---- lines and fields
 
 -- The first line of a text without its LF, and the text after it. (There is none where the text has no LF: then it is empty, or a line without its LF.)
-pub record Cut : Type 0 where
+pub record SplitLine : Type 0 where
   pub line : List ℕ
   pub rest : List ℕ
 
-unfoldable pub cut : List ℕ → Option Cut
-cut [] = none
-cut (b ∷ text) =
+unfoldable pub splitLine : List ℕ → Option SplitLine
+splitLine [] = none
+splitLine (b ∷ text) =
     elim (eqb b LF) [
       | true ↦ some (record { line = []; rest = text })
-      | false ↦ elim (cut text) [ none ↦ none | some c ↦ some (record { line = b ∷ c .line; rest = c .rest }) ]
+      | false ↦ elim (splitLine text) [ none ↦ none | some c ↦ some (record { line = b ∷ c .line; rest = c .rest }) ]
     ]
 
 -- a byte more at the front of the first field
@@ -141,9 +141,9 @@ pub data Read (A : Type 0) : Type 0 where
 
 -- the line numbered `at`, which begins the text
 unfoldable pub readLine : {A : Type 0} → (List (List ℕ) → Option A) → ℕ → List ℕ → Read A
-unfolding cut fields
+unfolding splitLine fields
 readLine layout at text =
-    elim (cut text) [
+    elim (splitLine text) [
       | none ↦ breaks at
       | some c ↦ elim (layout (fields (c .line))) [ none ↦ breaks at | some x ↦ got x (c .rest) ]
     ]
@@ -175,12 +175,12 @@ unfoldable pub readBody : ℕ → List ℕ → Answer Job
 unfolding readLines triangleLine weightLine flatMap
 readBody n text =
     elim (readLines triangleLine (2 * n - 4) 2 text) [
-      | breaks l ↦ refused (broken l)
+      | breaks l ↦ refused (lineBroken l)
       | got ts rest ↦
           elim (readLines weightLine (2 * n - 5) (2 * n - 2) rest) [
-            | breaks l ↦ refused (broken l)
+            | breaks l ↦ refused (lineBroken l)
             | got ws [] ↦ done (record { n = n; triangles = flatMap (λ t. t) ts; weights = ws })
-            | got ws (b ∷ more) ↦ refused (broken (4 * n - 7))
+            | got ws (b ∷ more) ↦ refused (lineBroken (4 * n - 7))
           ]
     ]
 
@@ -189,11 +189,11 @@ unfoldable pub readJob : List ℕ → Answer Job
 unfolding readLine headLine row1 readBody
 readJob text =
     elim (ltb mostBytes (length text)) [
-      | true ↦ refused (plain 19)
+      | true ↦ refused (numbered 19)
       | false ↦
           elim (readLine headLine 1 text) [
-            | breaks l ↦ refused (broken l)
-            | got n rest ↦ elim (row1 mostTextVertices n) [ true ↦ refused (plain 1) | false ↦ readBody n rest ]
+            | breaks l ↦ refused (lineBroken l)
+            | got n rest ↦ elim (row1 mostTextVertices n) [ true ↦ refused (numbered 1) | false ↦ readBody n rest ]
           ]
     ]
 
@@ -224,11 +224,11 @@ listing n N raises bs =
 -- ---- the job
 
 -- What a refusal tells where a text is given: its number alone, and for 17 the line.
-unfoldable pub told : Refusal → Refusal
-told (plain k) = plain k
-told (after count) = plain 13
-told (outside share) = plain 16
-told (broken line) = broken line
+unfoldable pub toldWithText : Refusal → Refusal
+toldWithText (numbered k) = numbered k
+toldWithText (stoppedAfter count) = numbered 13
+toldWithText (shareOutside share) = numbered 16
+toldWithText (lineBroken line) = lineBroken line
 
 -- the repair of a job, over buffers of its own
 unfoldable pub repairJob : Job → Repaired
@@ -239,24 +239,24 @@ repairJob job =
 
 -- the listing of a job text, or its refusal: the text's own, then the mesh's, 9 and 13
 unfoldable pub runJob : List ℕ → Answer (List ℕ)
-unfolding readJob repairJob told listing total
+unfolding readJob repairJob toldWithText listing total
 runJob text =
     elim (readJob text) [
-      | refused why ↦ refused (told why)
+      | refused why ↦ refused (toldWithText why)
       | done job ↦
           let end = repairJob job in
           elim (end .answer) [
-            | refused why ↦ refused (told why)
+            | refused why ↦ refused (toldWithText why)
             | done raises ↦ done (listing (job .n) (total (end .weights)) raises (end .coordinates))
           ]
     ]
 
 -- the line that a refusal names: 0 unless it is 17
 unfoldable pub lineOf : Refusal → ℕ
-lineOf (plain k) = 0
-lineOf (after count) = 0
-lineOf (outside share) = 0
-lineOf (broken line) = line
+lineOf (numbered k) = 0
+lineOf (stoppedAfter count) = 0
+lineOf (shareOutside share) = 0
+lineOf (lineBroken line) = line
 
 -- The call for the host service, on a text and a listing buffer: the listing's length, or 65,536 × (1 + line) plus the refusal's number; and the
 -- buffer at the end. The listing stands at its front, and bytes past it keep what they held. A buffer that is too short is 18, and keeps its contents.
@@ -275,7 +275,7 @@ hostCall text buffer =
       | refused why ↦ record { number = refusalNumber why; listing = buffer }
       | done bytes ↦
           elim (ltb (length buffer) (length bytes)) [
-            | true ↦ record { number = refusalNumber (plain 18); listing = buffer }
+            | true ↦ record { number = refusalNumber (numbered 18); listing = buffer }
             | false ↦ record { number = length bytes; listing = bytes ++ drop (length bytes) buffer }
           ]
     ]

@@ -5,10 +5,11 @@ use mathlib.Core.List.{List, [], _∷_, _++_, map, flatMap}
 use mathlib.Core.Option.{Option, none, some}
 use lib.Dec.{eqb}
 use lib.ListN.{length, getD}
-use Rattle.definitions.specs.Words.{all, keep, iterate, elem, seek, least, front}
-use Rattle.definitions.specs.Mesh.{tri, next, prev, corners, org, tip, opp, turns, leaving, inner}
+use Rattle.definitions.specs.Lists.{all, filter, iterate, elem, firstOr, minimum, init}
+use Rattle.definitions.specs.Mesh.{tri, next, prev, corners, org, tip, opp, rotations, outgoing, inner}
 
--- The peeling so far: the frontier from v0 to v1, the vertices that have been removed, and a dart for each triangle that has been labelled, at its corner with label 2.
+-- The peeling so far: the frontier from v0 to v1, the vertices that have been removed, and a dart for each triangle that has been labelled, at its corner
+-- with label 2.
 pub record Peeling : Type 0 where
   pub frontier : List ℕ
   pub removed : List ℕ
@@ -45,47 +46,47 @@ module _ (ts : List ℕ) where
   start = record { frontier = outer 0 ∷ outer 2 ∷ outer 1 ∷ []; removed = []; passed = [] }
 
   -- the frontier vertices among v's remaining neighbours
-  unfoldable pub seen : Peeling → ℕ → List ℕ
-  unfolding keep elem leaving tip
-  seen p v = keep (λ u. not (elem u (p .removed)) && elem u (p .frontier)) (map (tip ts) (leaving ts v))
+  unfoldable pub frontierNeighbours : Peeling → ℕ → List ℕ
+  unfolding filter elem outgoing tip
+  frontierNeighbours p v = filter (λ u. not (elem u (p .removed)) && elem u (p .frontier)) (map (tip ts) (outgoing ts v))
 
   -- v is not v0 or v1, and its remaining neighbours include only two frontier vertices, those beside it
   unfoldable pub removable : Peeling → ℕ → Bool
-  unfolding seen before after outer all
+  unfolding frontierNeighbours before after outer all
   removable p v =
-      not (eqb v (outer 0)) && not (eqb v (outer 1)) && eqb (length (seen p v)) 2
-      && all (λ u. eqb u (before v (p .frontier)) || eqb u (after v (p .frontier))) (seen p v)
+      not (eqb v (outer 0)) && not (eqb v (outer 1)) && eqb (length (frontierNeighbours p v)) 2
+      && all (λ u. eqb u (before v (p .frontier)) || eqb u (after v (p .frontier))) (frontierNeighbours p v)
 
   -- the smallest-numbered frontier vertex that can be removed
-  unfoldable pub leaver : Peeling → Option ℕ
-  unfolding removable keep least
-  leaver p = least (keep (removable p) (p .frontier))
+  unfoldable pub nextRemovable : Peeling → Option ℕ
+  unfolding removable filter minimum
+  nextRemovable p = minimum (filter (removable p) (p .frontier))
 
   -- the dart from v to u
-  unfoldable pub side : ℕ → ℕ → ℕ
-  unfolding seek leaving tip
-  side v u = seek (λ d. eqb (tip ts d) u) (length ts) (leaving ts v)
+  unfoldable pub dartTo : ℕ → ℕ → ℕ
+  unfolding firstOr outgoing tip
+  dartTo v u = firstOr (λ d. eqb (tip ts d) u) (length ts) (outgoing ts v)
 
   -- The darts from v to its remaining neighbours u1 .. uk, from the v0 side: turning round v from its neighbour before it on the frontier.
   unfoldable pub fan : Peeling → ℕ → List ℕ
-  unfolding keep elem tip turns leaving side before
-  fan p v = keep (λ d. not (elem (tip ts d) (p .removed))) (turns ts (length (leaving ts v)) (side v (before v (p .frontier))))
+  unfolding filter elem tip rotations outgoing dartTo before
+  fan p v = filter (λ d. not (elem (tip ts d) (p .removed))) (rotations ts (length (outgoing ts v)) (dartTo v (before v (p .frontier))))
 
   -- v removed: u1 .. uk replace it and its two neighbours on the frontier, and the triangles v, uj, uj+1 are labelled.
   unfoldable pub remove : Peeling → ℕ → Peeling
-  unfolding fan replace tip front
+  unfolding fan replace tip init
   remove p v =
       record {
         frontier = replace v (map (tip ts) (fan p v)) (p .frontier);
         removed = v ∷ p .removed;
-        passed = p .passed ++ front (fan p v);
+        passed = p .passed ++ init (fan p v);
       }
 
   unfoldable pub step : Peeling → Peeling
-  unfolding leaver remove
-  step p = elim (leaver p) [ none ↦ p | some v ↦ remove p v ]
+  unfolding nextRemovable remove
+  step p = elim (nextRemovable p) [ none ↦ p | some v ↦ remove p v ]
 
-  -- The whole peeling of a mesh on n vertices. v0 and v1 stay, so it stops by itself; on an accepted mesh it takes n - 2 steps (crate `demand`,
+  -- The whole peeling of a mesh on n vertices. v0 and v1 stay, so it stops by itself; on an accepted mesh it takes n - 2 steps (crate `theory_demand`,
   -- `always-labelled`).
   unfoldable pub peel : ℕ → Peeling
   unfolding start step iterate
@@ -109,8 +110,8 @@ label ls d = getD (3 ∷ 3 ∷ 3 ∷ ls) d 3
 
 -- the corner of triangle t that has label c
 unfoldable pub corner : List ℕ → ℕ → ℕ → ℕ
-unfolding label corners seek
-corner ls t c = seek (λ d. eqb (label ls d) c) (3 * t) (corners t)
+unfolding label corners firstOr
+corner ls t c = firstOr (λ d. eqb (label ls d) c) (3 * t) (corners t)
 
 -- a side of the outer triangle, from either of its triangles
 unfoldable pub rim : List ℕ → ℕ → Bool

@@ -1,15 +1,15 @@
--- What document 01 says, a file for each of its sections, in its order. `Words` has the few words on lists that they share.
--- `Cases` and `Table` try the definitions on the paper's checked shells and on its table of refusals.
-pub mod Words
+-- What document 01 says, a file for each of its sections, in its order. `Lists` has the few functions on lists that they share.
+-- `CheckedShells`, `RefusalTable` and `OwnCases` try the definitions on the paper's checked shells, on its table of refusals and on cases of our own.
+pub mod Lists
 pub mod Mesh
 pub mod Labels
-pub mod Cases
-pub mod Table
-pub mod Choices
+pub mod CheckedShells
+pub mod RefusalTable
+pub mod OwnCases
 pub mod Forward
 pub mod Backward
 pub mod Repair
 pub mod Answers
-pub mod Drawn
+pub mod DrawnPoints
 pub mod Refusals
 pub mod Job

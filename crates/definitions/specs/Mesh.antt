@@ -5,7 +5,7 @@ use mathlib.Core.Bool.{Bool, false, not, _&&_, _||_}
 use mathlib.Core.List.{List, [], _∷_}
 use lib.Dec.{leb, eqb}
 use lib.ListN.{length, getD}
-use Rattle.definitions.specs.Words.{run, upto, all, any, keep, iterate, elem, seek}
+use Rattle.definitions.specs.Lists.{range, upto, all, any, filter, iterate, elem, firstOr}
 
 -- ---- the exact lengths of the slices that are lent for n vertices
 
@@ -41,8 +41,8 @@ unfoldable pub prev : ℕ → ℕ
 prev d = 3 * (d / 3) + (d % 3 + 2) % 3
 
 unfoldable pub corners : ℕ → List ℕ
-unfolding run
-corners t = run (3 * t) 3
+unfolding range
+corners t = range (3 * t) 3
 
 module _ (ts : List ℕ) where
   -- The side of dart d runs from its origin to its tip.
@@ -63,8 +63,8 @@ module _ (ts : List ℕ) where
   triangles = upto (length ts / 3)
 
   unfoldable pub inner : List ℕ
-  unfolding run
-  inner = run 1 (length ts / 3 - 1)
+  unfolding range
+  inner = range 1 (length ts / 3 - 1)
 
   -- the same side; the opposite side
   unfoldable pub same : ℕ → ℕ → Bool
@@ -77,24 +77,24 @@ module _ (ts : List ℕ) where
 
   -- the dart of the opposite side (no dart, where there is none)
   unfoldable pub opp : ℕ → ℕ
-  unfolding opposite darts seek
-  opp d = seek (opposite d) (length ts) darts
+  unfolding opposite darts firstOr
+  opp d = firstOr (opposite d) (length ts) darts
 
-  -- one turn round the origin: from the corner v of (v, a, b) to the corner v of (v, b, c)
+  -- one rotation about the origin: from the corner v of (v, a, b) to the corner v of (v, b, c)
   unfoldable pub rot : ℕ → ℕ
   unfolding opp prev
   rot d = opp (prev d)
 
-  -- d, and the darts that further turns lead to: k darts in all
-  unfoldable pub turns : ℕ → ℕ → List ℕ
+  -- d, and the darts that further rotations lead to: k darts in all
+  unfoldable pub rotations : ℕ → ℕ → List ℕ
   unfolding rot
-  turns zero d = []
-  turns (suc k) d = d ∷ turns k (rot d)
+  rotations zero d = []
+  rotations (suc k) d = d ∷ rotations k (rot d)
 
   -- the darts that leave v: one for each triangle at v
-  unfoldable pub leaving : ℕ → List ℕ
-  unfolding org darts keep
-  leaving v = keep (λ d. eqb (org d) v) darts
+  unfoldable pub outgoing : ℕ → List ℕ
+  unfolding org darts filter
+  outgoing v = filter (λ d. eqb (org d) v) darts
 
   -- ---- rows 3 to 8: what each of them finds
 
@@ -117,28 +117,28 @@ module _ (ts : List ℕ) where
   unfolding opposite darts any
   row6 = any (λ d. not (any (opposite d) darts)) darts
 
-  -- The triangles at a vertex are one ring: there are some, and as many turns as there are, begun at the first, meet them all.
+  -- The triangles at a vertex are one ring: there are some, and as many rotations as there are, begun at the first, meet them all.
   unfoldable pub ring : List ℕ → Bool
-  unfolding turns all elem
+  unfolding rotations all elem
   ring [] = false
-  ring (d ∷ ds) = let met = turns (length (d ∷ ds)) d in all (λ e. elem e met) (d ∷ ds)
+  ring (d ∷ ds) = let met = rotations (length (d ∷ ds)) d in all (λ e. elem e met) (d ∷ ds)
 
   -- not one ring at a vertex
   unfoldable pub row7 : ℕ → Bool
-  unfolding ring leaving upto any
-  row7 n = any (λ v. not (ring (leaving v))) (upto n)
+  unfolding ring outgoing upto any
+  row7 n = any (λ v. not (ring (outgoing v))) (upto n)
 
   -- the triangles of `reached`, and those that a step across a side joins to them
-  unfoldable pub grow : List ℕ → List ℕ
-  unfolding keep elem any corners opp tri triangles
-  grow reached = keep (λ t. elem t reached || any (λ d. elem (tri (opp d)) reached) (corners t)) triangles
+  unfoldable pub expand : List ℕ → List ℕ
+  unfolding filter elem any corners opp tri triangles
+  expand reached = filter (λ t. elem t reached || any (λ d. elem (tri (opp d)) reached) (corners t)) triangles
 
-  -- The piece of the outer triangle. As many rounds as there are triangles reach all of it (crate `sphere`, `joined-rounds`).
-  unfoldable pub piece : List ℕ
-  unfolding grow iterate
-  piece = iterate grow (length ts / 3) (0 ∷ [])
+  -- The piece of the outer triangle. As many rounds as there are triangles reach all of it (crate `theory_sphere`, `joined-rounds`).
+  unfoldable pub component : List ℕ
+  unfolding expand iterate
+  component = iterate expand (length ts / 3) (0 ∷ [])
 
   -- several pieces: a triangle that the outer one does not reach
   unfoldable pub row8 : Bool
-  unfolding piece triangles any elem
-  row8 = let reached = piece in any (λ t. not (elem t reached)) triangles
+  unfolding component triangles any elem
+  row8 = let reached = component in any (λ t. not (elem t reached)) triangles

@@ -10,14 +10,15 @@ use lib.ListN.{length}
 use lib.IntN.{ℤ, pos, natAbs, _+ℤ_}
 use lib.Signed.{leZ}
 use lib.Ieee.{Float}
-use Rattle.definitions.specs.Words.{upto, any, totalAbs}
-use Rattle.definitions.specs.Answers.{plain, after, Answer, done, refused, Row, row, ask, verdict}
-use Rattle.definitions.specs.Mesh.{trianglesLength, labelsLength, weightsLength, coordinatesLength, scratchLength, pointsLength, row3, row4, row5, row6, row7, row8}
+use Rattle.definitions.specs.Lists.{upto, any, totalAbs}
+use Rattle.definitions.specs.Answers.{numbered, stoppedAfter, Answer, done, refused, Row, row, firstRefusal, answerOf}
+use Rattle.definitions.specs.Mesh.{trianglesLength, labelsLength, weightsLength, coordinatesLength, scratchLength, pointsLength, row3, row4, row5}
+use Rattle.definitions.specs.Mesh.{row6, row7, row8}
 use Rattle.definitions.specs.Labels.{outer, labels}
 use Rattle.definitions.specs.Forward.{forward}
 use Rattle.definitions.specs.Backward.{coordinate, backward}
-use Rattle.definitions.specs.Repair.{limit, Ending, mended, stopped, unfinished, repair}
-use Rattle.definitions.specs.Drawn.{scaleAllowed, snapAll}
+use Rattle.definitions.specs.Repair.{limit, Ending, finished, stopped, outOfFuel, repair}
+use Rattle.definitions.specs.DrawnPoints.{scaleAllowed, snapAll}
 
 -- ---- the rows
 
@@ -32,18 +33,19 @@ mostVertices = 4096
 pub data Slice : Type 0 where
   slice : ℕ → ℕ → Slice
 
-unfoldable pub wrong : Slice → Bool
-wrong (slice has wanted) = not (eqb has wanted)
+unfoldable pub wrongLength : Slice → Bool
+wrongLength (slice has wanted) = not (eqb has wanted)
 
 unfoldable pub row2 : List Slice → Bool
-unfolding any wrong
-row2 slices = any wrong slices
+unfolding any wrongLength
+row2 slices = any wrongLength slices
 
 -- 3 to 8, each over the whole mesh before the next
 unfoldable pub meshRows : ℕ → List ℕ → List Row
 unfolding row3 row4 row5 row6 row7 row8
 meshRows n ts =
-    row 3 (λ _. row3 ts n) ∷ row 4 (λ _. row4 ts) ∷ row 5 (λ _. row5 ts) ∷ row 6 (λ _. row6 ts) ∷ row 7 (λ _. row7 ts n) ∷ row 8 (λ _. row8 ts) ∷ []
+    row 3 (λ _. row3 ts n) ∷ row 4 (λ _. row4 ts) ∷ row 5 (λ _. row5 ts) ∷ row 6 (λ _. row6 ts) ∷ row 7 (λ _. row7 ts n)
+    ∷ row 8 (λ _. row8 ts) ∷ []
 
 -- 9: the weights' absolute values sum past L
 unfoldable pub row9 : List ℤ → Bool
@@ -59,17 +61,17 @@ unfoldable pub eqZ : ℤ → ℤ → Bool
 eqZ a b = leZ a b && leZ b a
 
 -- vertex i is at (x, y, z)
-unfoldable pub stands : List ℤ → ℕ → ℤ → ℤ → ℤ → Bool
+unfoldable pub hasCoordinates : List ℤ → ℕ → ℤ → ℤ → ℤ → Bool
 unfolding coordinate eqZ
-stands bs i x y z = eqZ (coordinate bs 0 i) x && eqZ (coordinate bs 1 i) y && eqZ (coordinate bs 2 i) z
+hasCoordinates bs i x y z = eqZ (coordinate bs 0 i) x && eqZ (coordinate bs 1 i) y && eqZ (coordinate bs 2 i) z
 
 -- 11: an outer vertex off its corner; N is b0 of v0
 unfoldable pub row11 : List ℕ → List ℤ → Bool
-unfolding stands outer coordinate
+unfolding hasCoordinates outer coordinate
 row11 ts bs =
     let N = coordinate bs 0 (outer ts 0) in
     let o = pos 0 in
-    not (stands bs (outer ts 0) N o o && stands bs (outer ts 1) o N o && stands bs (outer ts 2) o o N)
+    not (hasCoordinates bs (outer ts 0) N o o && hasCoordinates bs (outer ts 1) o N o && hasCoordinates bs (outer ts 2) o o N)
 
 -- 12: a vertex's sum is not N
 unfoldable pub row12 : ℕ → List ℕ → List ℤ → Bool
@@ -88,11 +90,11 @@ scratchAfter (some k) scratch = cond (leb k 2) scratch (map (λ _. pos 0) scratc
 -- ---- the calls. In each, `found` is the number of the first row that finds something.
 
 -- A call on a mesh asks 1, 2 (of the triangles, the scratch and its own slices), 3 to 8, and then its own rows.
-unfoldable pub asked : ℕ → List ℕ → List ℤ → List Slice → List Row → Option ℕ
-unfolding row1 row2 meshRows ask
-asked n ts scratch slices own =
+unfoldable pub callRefusal : ℕ → List ℕ → List ℤ → List Slice → List Row → Option ℕ
+unfolding row1 row2 meshRows firstRefusal
+callRefusal n ts scratch slices own =
     let lent = slice (length ts) (trianglesLength n) ∷ slice (length scratch) (scratchLength n) ∷ slices in
-    ask (row 1 (λ _. row1 mostVertices n) ∷ row 2 (λ _. row2 lent) ∷ meshRows n ts ++ own)
+    firstRefusal (row 1 (λ _. row1 mostVertices n) ∷ row 2 (λ _. row2 lent) ∷ meshRows n ts ++ own)
 
 -- mesh check
 pub record Checked : Type 0 where
@@ -100,10 +102,10 @@ pub record Checked : Type 0 where
   pub scratch : List ℤ
 
 unfoldable pub checkCall : ℕ → List ℕ → List ℤ → Checked
-unfolding asked scratchAfter
+unfolding callRefusal scratchAfter
 checkCall n ts scratch =
-    let found = asked n ts scratch [] [] in
-    record { answer = verdict tt found; scratch = scratchAfter found scratch }
+    let found = callRefusal n ts scratch [] [] in
+    record { answer = answerOf tt found; scratch = scratchAfter found scratch }
 
 -- labels: `ls` is the lent slice that they are written to
 pub record Labelled : Type 0 where
@@ -112,11 +114,11 @@ pub record Labelled : Type 0 where
   pub scratch : List ℤ
 
 unfoldable pub labelsCall : ℕ → List ℕ → List ℕ → List ℤ → Labelled
-unfolding asked scratchAfter labels
+unfolding callRefusal scratchAfter labels
 labelsCall n ts ls scratch =
-    let found = asked n ts scratch (slice (length ls) (labelsLength n) ∷ []) [] in
+    let found = callRefusal n ts scratch (slice (length ls) (labelsLength n) ∷ []) [] in
     record {
-      answer = verdict tt found;
+      answer = answerOf tt found;
       labels = elim found [ none ↦ labels n ts | some k ↦ ls ];
       scratch = scratchAfter found scratch;
     }
@@ -128,12 +130,12 @@ pub record Forwarded : Type 0 where
   pub scratch : List ℤ
 
 unfoldable pub forwardCall : ℕ → List ℕ → List ℤ → List ℤ → List ℤ → Forwarded
-unfolding asked row9 scratchAfter labels forward
+unfolding callRefusal row9 scratchAfter labels forward
 forwardCall n ts ws bs scratch =
     let slices = slice (length ws) (weightsLength n) ∷ slice (length bs) (coordinatesLength n) ∷ [] in
-    let found = asked n ts scratch slices (row 9 (λ _. row9 ws) ∷ []) in
+    let found = callRefusal n ts scratch slices (row 9 (λ _. row9 ws) ∷ []) in
     record {
-      answer = verdict tt found;
+      answer = answerOf tt found;
       coordinates = elim found [ none ↦ forward n ts (labels n ts) ws | some k ↦ bs ];
       scratch = scratchAfter found scratch;
     }
@@ -145,14 +147,14 @@ pub record Backwarded : Type 0 where
   pub scratch : List ℤ
 
 unfoldable pub backwardCall : ℕ → List ℕ → List ℤ → List ℤ → List ℤ → Backwarded
-unfolding asked row9 row10 row11 row12 scratchAfter labels backward
+unfolding callRefusal row9 row10 row11 row12 scratchAfter labels backward
 backwardCall n ts bs ws scratch =
     let slices = slice (length bs) (coordinatesLength n) ∷ slice (length ws) (weightsLength n) ∷ [] in
     let new = backward ts (labels n ts) bs in
     let own = row 10 (λ _. row10 bs) ∷ row 11 (λ _. row11 ts bs) ∷ row 12 (λ _. row12 n ts bs) ∷ row 9 (λ _. row9 new) ∷ [] in
-    let found = asked n ts scratch slices own in
+    let found = callRefusal n ts scratch slices own in
     record {
-      answer = verdict tt found;
+      answer = answerOf tt found;
       weights = elim found [ none ↦ new | some k ↦ ws ];
       scratch = scratchAfter found scratch;
     }
@@ -166,19 +168,19 @@ pub record Repaired : Type 0 where
   pub scratch : List ℤ
 
 unfoldable pub repairAnswer : Ending → ℕ → Answer ℕ
-repairAnswer mended count = done count
-repairAnswer stopped count = refused (after count)
-repairAnswer unfinished count = refused (plain 0)
+repairAnswer finished count = done count
+repairAnswer stopped count = refused (stoppedAfter count)
+repairAnswer outOfFuel count = refused (numbered 0)
 
 unfoldable pub repairCall : ℕ → List ℕ → List ℤ → List ℤ → List ℤ → Repaired
-unfolding asked row9 scratchAfter labels forward repair repairAnswer
+unfolding callRefusal row9 scratchAfter labels forward repair repairAnswer
 repairCall n ts ws bs scratch =
     let slices = slice (length ws) (weightsLength n) ∷ slice (length bs) (coordinatesLength n) ∷ [] in
-    let found = asked n ts scratch slices (row 9 (λ _. row9 ws) ∷ []) in
+    let found = callRefusal n ts scratch slices (row 9 (λ _. row9 ws) ∷ []) in
     let ls = labels n ts in
     let end = repair n ts ls ws in
     record {
-      answer = elim found [ none ↦ repairAnswer (end .ending) (length (end .raises)) | some k ↦ refused (plain k) ];
+      answer = elim found [ none ↦ repairAnswer (end .ending) (length (end .raises)) | some k ↦ refused (numbered k) ];
       weights = elim found [ none ↦ end .weights | some k ↦ ws ];
       coordinates = elim found [ none ↦ forward n ts ls (end .weights) | some k ↦ bs ];
       scratch = scratchAfter found scratch;
@@ -190,12 +192,12 @@ pub record Snapped : Type 0 where
   pub coordinates : List ℤ
 
 unfoldable pub snapCall : ℕ → List Float → ℕ → List ℤ → Snapped
-unfolding row1 row2 ask scaleAllowed snapAll
+unfolding row1 row2 firstRefusal scaleAllowed snapAll
 snapCall n shares r bs =
     let lent = slice (length shares) (pointsLength n) ∷ slice (length bs) (coordinatesLength n) ∷ [] in
     let rows = row 1 (λ _. row1 mostVertices n) ∷ row 2 (λ _. row2 lent) ∷ row 14 (λ _. not (scaleAllowed r)) ∷ [] in
-    elim (ask rows) [
-      | some k ↦ record { answer = refused (plain k); coordinates = bs }
+    elim (firstRefusal rows) [
+      | some k ↦ record { answer = refused (numbered k); coordinates = bs }
       | none ↦
           elim (snapAll r shares) [
             | refused why ↦ record { answer = refused why; coordinates = bs }
@@ -207,7 +209,7 @@ snapCall n shares r bs =
 
 -- a mesh: the rows 1 to 8 find nothing in it
 abbrev pub Accepted : ℕ → List ℕ → Type 0
-Accepted n ts = (row1 mostVertices n ≡ false) × (length ts ≡ trianglesLength n) × (ask (meshRows n ts) ≡ none)
+Accepted n ts = (row1 mostVertices n ≡ false) × (length ts ≡ trianglesLength n) × (firstRefusal (meshRows n ts) ≡ none)
 
 -- weights of a mesh on n vertices: 2n - 5 numbers that 9 lets through
 abbrev pub AcceptedWeights : ℕ → List ℤ → Type 0
@@ -216,4 +218,5 @@ AcceptedWeights n ws = (length ws ≡ weightsLength n) × (row9 ws ≡ false)
 -- coordinates of a mesh with labels ls: 3n numbers that 10, 11 and 12 let through and whose weights, by the backward map, 9 lets through
 abbrev pub AcceptedCoordinates : ℕ → List ℕ → List ℕ → List ℤ → Type 0
 AcceptedCoordinates n ts ls bs =
-    (length bs ≡ coordinatesLength n) × (row10 bs ≡ false) × (row11 ts bs ≡ false) × (row12 n ts bs ≡ false) × (row9 (backward ts ls bs) ≡ false)
+    (length bs ≡ coordinatesLength n) × (row10 bs ≡ false) × (row11 ts bs ≡ false) × (row12 n ts bs ≡ false)
+    × (row9 (backward ts ls bs) ≡ false)

@@ -7,7 +7,7 @@ use lib.Dec.{ltb}
 use lib.ListN.{set}
 use lib.IntN.{ℤ, pos, _+ℤ_, _-ℤ_, _*ℤ_}
 use lib.Signed.{leZ}
-use Rattle.definitions.specs.Words.{keep, first, totalAbs}
+use Rattle.definitions.specs.Lists.{filter, first, totalAbs}
 use Rattle.definitions.specs.Mesh.{org, inner}
 use Rattle.definitions.specs.Labels.{corner}
 use Rattle.definitions.specs.Forward.{weight, forward}
@@ -22,16 +22,16 @@ maxZ a b = cond (leZ a b) b a
 
 module _ (ts ls : List ℕ) (bs : List ℤ) where
   -- coordinate c at the corner of triangle t that has label a
-  unfoldable pub value : ℕ → ℕ → ℕ → ℤ
+  unfoldable pub cornerCoordinate : ℕ → ℕ → ℕ → ℤ
   unfolding coordinate org corner
-  value c t a = coordinate bs c (org ts (corner ls t a))
+  cornerCoordinate c t a = coordinate bs c (org ts (corner ls t a))
 
   -- the area number D of triangle t, with corners p, q, r labelled 0, 1, 2
   unfoldable pub area : ℕ → ℤ
-  unfolding value
+  unfolding cornerCoordinate
   area t =
-      (value 0 t 1 -ℤ value 0 t 0) *ℤ (value 1 t 2 -ℤ value 1 t 0)
-      -ℤ (value 1 t 1 -ℤ value 1 t 0) *ℤ (value 0 t 2 -ℤ value 0 t 0)
+      (cornerCoordinate 0 t 1 -ℤ cornerCoordinate 0 t 0) *ℤ (cornerCoordinate 1 t 2 -ℤ cornerCoordinate 1 t 0)
+      -ℤ (cornerCoordinate 1 t 1 -ℤ cornerCoordinate 1 t 0) *ℤ (cornerCoordinate 0 t 2 -ℤ cornerCoordinate 0 t 0)
 
   -- flat or turned
   unfoldable pub bad : ℕ → Bool
@@ -39,22 +39,22 @@ module _ (ts ls : List ℕ) (bs : List ℤ) where
   bad t = leZ (area t) (pos 0)
 
   -- the greater coordinate c at the corners with labels a and b, less that at the corner with label c
-  unfoldable pub lack : ℕ → ℕ → ℕ → ℕ → ℤ
-  unfolding value maxZ
-  lack t c a b = maxZ (value c t a) (value c t b) -ℤ value c t c
+  unfoldable pub deficit : ℕ → ℕ → ℕ → ℕ → ℤ
+  unfolding cornerCoordinate maxZ
+  deficit t c a b = maxZ (cornerCoordinate c t a) (cornerCoordinate c t b) -ℤ cornerCoordinate c t c
 
   -- 1 + m
   unfoldable pub raise : ℕ → ℤ
-  unfolding lack maxZ
-  raise t = pos 1 +ℤ maxZ (lack t 0 1 2) (maxZ (lack t 1 0 2) (lack t 2 0 1))
+  unfolding deficit maxZ
+  raise t = pos 1 +ℤ maxZ (deficit t 0 1 2) (maxZ (deficit t 1 0 2) (deficit t 2 0 1))
 
 -- How the loop ended: no triangle is bad any more; the next raise would break 9; or its fuel ran out, which never happens on an accepted mesh: no
--- triangle is raised twice, and the fuel is one more than there are inner triangles (crate `demand`, `ends`).
+-- triangle is raised twice, and the fuel is one more than there are inner triangles (crate `theory_demand`, `ends`).
 pub data Ending : Type 0 where
-  mended stopped unfinished : Ending
+  finished stopped outOfFuel : Ending
 
 -- the weights at the end, and the triangles that were raised, in order
-pub record Mending : Type 0 where
+pub record RepairState : Type 0 where
   pub ending : Ending
   pub weights : List ℤ
   pub raises : List ℕ
@@ -66,26 +66,26 @@ addTo ws t x = set ws (t - 1) (weight ws t +ℤ x)
 
 module _ (n : ℕ) (ts ls : List ℕ) where
   -- While some inner triangle is bad, the lowest-numbered one is raised.
-  unfoldable pub mending : ℕ → List ℤ → List ℕ → Mending
+  unfoldable pub repairLoop : ℕ → List ℤ → List ℕ → RepairState
   unfolding forward bad raise addTo first inner totalAbs
-  mending zero ws rs = record { ending = unfinished; weights = ws; raises = rs }
-  mending (suc k) ws rs =
+  repairLoop zero ws rs = record { ending = outOfFuel; weights = ws; raises = rs }
+  repairLoop (suc k) ws rs =
       let bs = forward n ts ls ws in
       elim (first (bad ts ls bs) (inner ts)) [
-        | none ↦ record { ending = mended; weights = ws; raises = rs }
+        | none ↦ record { ending = finished; weights = ws; raises = rs }
         | some t ↦
             let ws′ = addTo ws t (raise ts ls bs t) in
             elim (ltb limit (totalAbs ws′)) [
               | true ↦ record { ending = stopped; weights = ws; raises = rs }
-              | false ↦ mending k ws′ (rs ++ (t ∷ []))
+              | false ↦ repairLoop k ws′ (rs ++ (t ∷ []))
             ]
       ]
 
-  unfoldable pub repair : List ℤ → Mending
-  unfolding mending
-  repair ws = mending (2 * n - 4) ws []
+  unfoldable pub repair : List ℤ → RepairState
+  unfolding repairLoop
+  repair ws = repairLoop (2 * n - 4) ws []
 
 -- the inner triangles whose weights differ between two lists
 unfoldable pub changed : List ℕ → List ℤ → List ℤ → List ℕ
-unfolding keep inner weight
-changed ts ws ws′ = keep (λ t. not (leZ (weight ws t) (weight ws′ t) && leZ (weight ws′ t) (weight ws t))) (inner ts)
+unfolding filter inner weight
+changed ts ws ws′ = filter (λ t. not (leZ (weight ws t) (weight ws′ t) && leZ (weight ws′ t) (weight ws t))) (inner ts)

@@ -3,11 +3,12 @@ use Prim.Native.Nat.{ℕ, zero, suc, _+_, _≤_, _<_}
 use mathlib.Core.Path.{_≡_, refl, sym, ap}
 use mathlib.Core.Logic.{inl, inr}
 use mathlib.Core.Bool.{Bool, not}
-use mathlib.Core.List.{List, [], _∷_, _++_, map, List·Memᴰ·head, List·Memᴰ·tail, List·Memᴰ·cases-cons, List·Memᴰ·append-cases, Memᴰ·cast, Memᴰ·append-left, Memᴰ·append-right, Memᴰ·of-map}
+use mathlib.Core.List.{List, [], _∷_, _++_, map, List·Memᴰ·head, List·Memᴰ·tail, List·Memᴰ·cases-cons, List·Memᴰ·append-cases, Memᴰ·cast}
+use mathlib.Core.List.{Memᴰ·append-left, Memᴰ·append-right, Memᴰ·of-map}
 use native.Mathlib.Omega.{arith}
 use lib.ListN.{length, getD, length-append}
-use Rattle.definitions.specs.Words.{run, upto, keep}
-use Rattle.laws.specs.Lists.{_∈_, tested, keep-in, run-in, getD-in, in-split, decIn}
+use Rattle.definitions.specs.Lists.{range, upto, filter}
+use Rattle.laws.specs.Lists.{_∈_, tested, filter-in, range-in, getD-in, in-split, decIn}
 
 -- no member stands at two places
 pub data Distinct {A : Type 0} : List A → Type 0 where
@@ -48,17 +49,18 @@ module _ {A : Type 0} where
   distinct-getD (cons n s) (suc i) (suc j) d h l e = ap suc (distinct-getD s i j d (omega arith) (omega arith) e)
 
   -- a part of a list without repeats has none
-  pub distinct-keep : (p : A → Bool) {xs : List A} → Distinct xs → Distinct (keep p xs)
-  unfolding keep
-  distinct-keep p nil = nil
-  distinct-keep p (cons {x = x} {xs = xs} n d) =
+  pub distinct-filter : (p : A → Bool) {xs : List A} → Distinct xs → Distinct (filter p xs)
+  unfolding filter
+  distinct-filter p nil = nil
+  distinct-filter p (cons {x = x} {xs = xs} n d) =
       elim (tested (p x)) [
-        | inl q ↦ rw q (cons (λ m. n (keep-in p xs m .0)) (distinct-keep p d))
-        | inr q ↦ rw q (distinct-keep p d)
+        | inl q ↦ rw q (cons (λ m. n (filter-in p xs m .0)) (distinct-filter p d))
+        | inr q ↦ rw q (distinct-filter p d)
       ]
 
   -- two lists without repeats and without a common member, one after the other
-  pub distinct-append : {xs : List A} → Distinct xs → {ys : List A} → Distinct ys → ((x : A) → x ∈ xs → x ∈ ys → ⊥) → Distinct (xs ++ ys)
+  pub distinct-append : {xs : List A} → Distinct xs → {ys : List A} → Distinct ys → ((x : A) → x ∈ xs → x ∈ ys → ⊥) →
+      Distinct (xs ++ ys)
   distinct-append nil d h = d
   distinct-append (cons {x = x} {xs = xs} n c) {ys} d h =
       cons {x = x}
@@ -66,7 +68,8 @@ module _ {A : Type 0} where
       (distinct-append c d (λ y m. h y (List·Memᴰ·tail m)))
 
 -- a function that tells the members apart
-pub distinct-map : {A B : Type 0} (f : A → B) {xs : List A} → ((x y : A) → x ∈ xs → y ∈ xs → f x ≡ f y → x ≡ y) → Distinct xs → Distinct (map f xs)
+pub distinct-map : {A B : Type 0} (f : A → B) {xs : List A} → ((x y : A) → x ∈ xs → y ∈ xs → f x ≡ f y → x ≡ y) → Distinct xs →
+    Distinct (map f xs)
 distinct-map f inj nil = nil
 distinct-map f inj (cons {x = x} {xs = xs} n d) =
     cons
@@ -74,17 +77,18 @@ distinct-map f inj (cons {x = x} {xs = xs} n d) =
     (distinct-map f (λ y z m k. inj y z (List·Memᴰ·tail m) (List·Memᴰ·tail k)) d)
 
 -- numbers in order
-pub distinct-run : (from k : ℕ) → Distinct (run from k)
-unfolding run
-distinct-run from zero = nil
-distinct-run from (suc k) = cons {x = from} (λ m. let r = run-in (suc from) k m in omega arith) (distinct-run (suc from) k)
+pub distinct-range : (from k : ℕ) → Distinct (range from k)
+unfolding range
+distinct-range from zero = nil
+distinct-range from (suc k) = cons {x = from} (λ m. let r = range-in (suc from) k m in omega arith) (distinct-range (suc from) k)
 
 pub distinct-upto : (n : ℕ) → Distinct (upto n)
 unfolding upto
-distinct-upto n = distinct-run 0 n
+distinct-upto n = distinct-range 0 n
 
 -- a list without repeats within another that is no longer has every member of it
-pub distinct-full : {xs : List ℕ} → Distinct xs → (ys : List ℕ) → ((x : ℕ) → x ∈ xs → x ∈ ys) → length ys ≤ length xs → (y : ℕ) → y ∈ ys → y ∈ xs
+pub distinct-full : {xs : List ℕ} → Distinct xs → (ys : List ℕ) → ((x : ℕ) → x ∈ xs → x ∈ ys) → length ys ≤ length xs → (y : ℕ)
+    → y ∈ ys → y ∈ xs
 distinct-full {xs} d ys h l y m =
     elim (decIn y xs) [
       | yes k ↦ k
@@ -95,11 +99,11 @@ distinct-full {xs} d ys h l y m =
     more n x k = elim (List·Memᴰ·cases-cons k) [ inl e ↦ Memᴰ·cast e m | inr k′ ↦ h x k′ ]
 
 -- those that pass and those that do not are all
-pub keep-not : {A : Type 0} (p : A → Bool) (xs : List A) → length (keep p xs) + length (keep (λ x. not (p x)) xs) ≡ length xs
-unfolding keep
-keep-not p [] = refl
-keep-not p (x ∷ xs) =
+pub filter-not : {A : Type 0} (p : A → Bool) (xs : List A) → length (filter p xs) + length (filter (λ x. not (p x)) xs) ≡ length xs
+unfolding filter
+filter-not p [] = refl
+filter-not p (x ∷ xs) =
     elim (tested (p x)) [
-      | inl q ↦ rw q (omega (arith, keep-not p xs))
-      | inr q ↦ rw q (omega (arith, keep-not p xs))
+      | inl q ↦ rw q (omega (arith, filter-not p xs))
+      | inr q ↦ rw q (omega (arith, filter-not p xs))
     ]

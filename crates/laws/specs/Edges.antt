@@ -2,10 +2,11 @@
 use Prim.Native.Nat.{ℕ, zero, suc, _*_, _≤_, _<_}
 use mathlib.Core.Path.{_≡_, refl, sym, ap, _∙_}
 use mathlib.Core.Logic.{_≢_, _⊎_, inl, inr}
-use mathlib.Core.List.{List, [], _∷_, _++_, map, List·Memᴰ·head, List·Memᴰ·tail, List·Memᴰ·not-nil, List·Memᴰ·cases-cons, List·Memᴰ·append-cases, Memᴰ·cast, Memᴰ·append-left, Memᴰ·append-right, Memᴰ·of-map}
+use mathlib.Core.List.{List, [], _∷_, _++_, map, List·Memᴰ·head, List·Memᴰ·tail, List·Memᴰ·not-nil, List·Memᴰ·cases-cons}
+use mathlib.Core.List.{List·Memᴰ·append-cases, Memᴰ·cast, Memᴰ·append-left, Memᴰ·append-right, Memᴰ·of-map}
 use native.Mathlib.Omega.{arith}
 use lib.ListN.{length, getD, length-append, length-map}
-use Rattle.definitions.specs.Words.{upto}
+use Rattle.definitions.specs.Lists.{upto}
 use Rattle.laws.specs.Lists.{_∈_, getD-in, in-upto, length-upto}
 use Rattle.laws.specs.Counting.{Distinct, nil, cons, distinct-within, distinct-append, distinct-map}
 
@@ -81,14 +82,16 @@ module _ (o : ℕ → ℕ) where
     none : Apart []
     more : {x : ℕ} {xs : List ℕ} → ((y : ℕ) → y ∈ xs → (x ≢ y) × (x ≢ o y)) → Apart xs → Apart (x ∷ xs)
 
-  pub apart-append : {xs ys : List ℕ} → Apart xs → Apart ys → ((x y : ℕ) → x ∈ xs → y ∈ ys → (x ≢ y) × (x ≢ o y)) → Apart (xs ++ ys)
+  pub apart-append : {xs ys : List ℕ} → Apart xs → Apart ys → ((x y : ℕ) → x ∈ xs → y ∈ ys → (x ≢ y) × (x ≢ o y)) →
+      Apart (xs ++ ys)
   apart-append none b c = b
   apart-append {ys} (more {x = x} {xs = xs} a as′) b c =
       Apart.more {x = x}
       (λ y m. elim (List·Memᴰ·append-cases xs {t = ys} m) [ inl l ↦ a y l | inr r ↦ c x y (List·Memᴰ·head refl) r ])
       (apart-append as′ b (λ u w m. c u w (List·Memᴰ·tail m)))
 
-  pub apart-map : (f : ℕ → ℕ) {xs : List ℕ} → Distinct xs → ((x y : ℕ) → x ∈ xs → y ∈ xs → x ≢ y → (f x ≢ f y) × (f x ≢ o (f y))) → Apart (map f xs)
+  pub apart-map : (f : ℕ → ℕ) {xs : List ℕ} → Distinct xs →
+      ((x y : ℕ) → x ∈ xs → y ∈ xs → x ≢ y → (f x ≢ f y) × (f x ≢ o (f y))) → Apart (map f xs)
   apart-map f nil h = Apart.none
   apart-map f (cons {x = x} {xs = xs} n d) h =
       Apart.more {x = f x}
@@ -99,7 +102,8 @@ module _ (o : ℕ → ℕ) where
   module _ (M : ℕ) (low : (x : ℕ) → x < M → o x < M) (back : (x : ℕ) → x < M → o (o x) ≡ x) (moves : (x : ℕ) → x < M → o x ≢ x) where
     halves : {xs : List ℕ} → Apart xs → ((x : ℕ) → x ∈ xs → x < M) → (x y : ℕ) → x ∈ xs → y ∈ xs → x ≢ o y
     halves none b x y m k e = absurd (List·Memᴰ·not-nil m)
-    halves (more {x = a} {xs = xs} h hs) b x y m k e = go (List·Memᴰ·cases-cons m) (List·Memᴰ·cases-cons k) (halves hs (λ z l. b z (List·Memᴰ·tail l)) x y)
+    halves (more {x = a} {xs = xs} h hs) b x y m k e = go (List·Memᴰ·cases-cons m) (List·Memᴰ·cases-cons k)
+        (halves hs (λ z l. b z (List·Memᴰ·tail l)) x y)
       where
         go : (x ≡ a) ⊎ x ∈ xs → (y ≡ a) ⊎ y ∈ xs → (x ∈ xs → y ∈ xs → x ≢ o y) → ⊥
         go (inl p) (inl q) ih = moves x (b x m) (ap o (p ∙ sym q) ∙ sym e)

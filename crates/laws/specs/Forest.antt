@@ -40,11 +40,13 @@ highest f (suc n) =
     (t .0 + f n, λ x h. elim (ℕ-discrete x n) [ yes e ↦ rw e (omega arith) | no e ↦ omega (arith, t .1 x (omega arith)) ])
 
 -- two paths one after the other, and a path the other way round where each good arc has a good arc back
-pub chain-append : {Good : ℕ → Type 0} {src tgt : ℕ → ℕ} {x y z : ℕ} → Chain Good src tgt y x → Chain Good src tgt z y → Chain Good src tgt z x
+pub chain-append : {Good : ℕ → Type 0} {src tgt : ℕ → ℕ} {x y z : ℕ} → Chain Good src tgt y x → Chain Good src tgt z y →
+    Chain Good src tgt z x
 chain-append (stop e) c = rw e c
 chain-append (step d g s r) c = step d g s (chain-append r c)
 
-module _ {Good : ℕ → Type 0} {src tgt : ℕ → ℕ} (back : ℕ → ℕ) (good : (d : ℕ) → Good d → Good (back d)) (from : (d : ℕ) → Good d → src (back d) ≡ tgt d)
+module _ {Good : ℕ → Type 0} {src tgt : ℕ → ℕ} (back : ℕ → ℕ) (good : (d : ℕ) → Good d → Good (back d)) (from : (d : ℕ) → Good d →
+    src (back d) ≡ tgt d)
     (to : (d : ℕ) → Good d → tgt (back d) ≡ src d) where
   pub chain-reverse : {x y : ℕ} → Chain Good src tgt y x → Chain Good src tgt x y
   chain-reverse (stop e) = stop (sym e)

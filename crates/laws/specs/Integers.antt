@@ -1,6 +1,7 @@
 -- Signed numbers for `omega`: a whole number is the difference of two naturals, `up` and `dn`, of which omega proves what is linear. Assumes nothing.
 -- `omega (int, z+ a b, z- c d)` proves a linear ≡, ≤ℤ or <ℤ over ℤ from such facts in reach: list `z+`, `z-` or `zneg` for each sum, difference or
--- negation in it, `zpos k` for each literal `pos k`, and `zabs` for each absolute value. A fact of ℤ that is not in reach is listed through `z≡`, `z≤`, `z<`.
+-- negation in it, `zpos k` for each literal `pos k`, and `zabs` for each absolute value. A fact of ℤ that is not in reach is listed through `z≡`, `z≤`,
+-- `z<`.
 use Prim.Native.Nat.{ℕ, zero, suc, _+_, _-_, _≤_, _<_}
 use mathlib.Core.Path.{_≡_, refl, ap}
 use mathlib.Core.Bool.{Bool, true, false, cond}

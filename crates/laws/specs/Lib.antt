@@ -10,7 +10,7 @@ pub mod Sums
 pub mod Multiples
 pub mod Forest
 pub mod Edges
-pub mod Order
+pub mod Positions
 pub mod Mapped
 pub mod Loops
 pub mod Tabulated

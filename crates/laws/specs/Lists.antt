@@ -4,7 +4,8 @@ use Prim.Native.Nat.{ℕ, zero, suc, _+_, _-_, _*_, _≤_, _<_, min}
 use mathlib.Core.Path.{_≡_, refl, sym, ap, ap₂, _∙_, subst}
 use mathlib.Core.Logic.{_⊎_, inl, inr}
 use mathlib.Core.Bool.{Bool, true, false, _&&_, _||_}
-use mathlib.Core.List.{List, [], _∷_, _++_, flatMap, List·Memᴰ, List·Memᴰ·head, List·Memᴰ·tail, List·Memᴰ·not-nil, List·Memᴰ·cases-cons, Memᴰ·cast, Memᴰ·append-right}
+use mathlib.Core.List.{List, [], _∷_, _++_, flatMap, List·Memᴰ, List·Memᴰ·head, List·Memᴰ·tail, List·Memᴰ·not-nil, List·Memᴰ·cases-cons}
+use mathlib.Core.List.{Memᴰ·cast, Memᴰ·append-right}
 use mathlib.Core.Option.{Option, none, some}
 use native.Mathlib.Omega.{arith}
 use native.Mathlib.Decide.{decLe, ℕ-discrete}
@@ -13,7 +14,7 @@ use lib.ListN.{length, getD, set, length-append, List·getD-append}
 use lib.Seq.{getD-append-add, getD-append-seam}
 use lib.IntN.{ℤ, natAbs, _+ℤ_, +ℤ-assoc, +ℤ-idl}
 use borrow.Author.Tests.{eqb-true, eq-eqb}
-use Rattle.definitions.specs.Words.{run, upto, all, any, keep, iterate, elem, seek, first, least, front, total, totalAbs}
+use Rattle.definitions.specs.Lists.{range, upto, all, any, filter, iterate, elem, firstOr, first, minimum, init, total, totalAbs}
 
 infix 50 _∈_
 abbrev pub _∈_ : {A : Type 0} → A → List A → Type 0
@@ -126,65 +127,65 @@ module _ {A : Type 0} (p : A → Bool) where
   pub false-all : {x : A} {xs : List A} → x ∈ xs → p x ≡ false → all p xs ≡ false
   false-all {x} {xs} m e = untrue (all p xs) (λ q. clash (all-true xs q m) e)
 
-  -- the members of `keep` are those that pass
-  pub keep-in : {x : A} (xs : List A) → x ∈ keep p xs → (x ∈ xs) × (p x ≡ true)
-  unfolding keep
-  keep-in [] m = absurd (List·Memᴰ·not-nil m)
-  keep-in {x} (y ∷ ys) m =
+  -- the members of `filter` are those that pass
+  pub filter-in : {x : A} (xs : List A) → x ∈ filter p xs → (x ∈ xs) × (p x ≡ true)
+  unfolding filter
+  filter-in [] m = absurd (List·Memᴰ·not-nil m)
+  filter-in {x} (y ∷ ys) m =
       elim (tested (p y)) [
         | inl q ↦
             elim (List·Memᴰ·cases-cons (rw q at m)) [
               | inl e ↦ (List·Memᴰ·head e, ap p e ∙ q)
-              | inr m′ ↦ let r = keep-in ys m′ in (List·Memᴰ·tail (r .0), r .1)
+              | inr m′ ↦ let r = filter-in ys m′ in (List·Memᴰ·tail (r .0), r .1)
             ]
-        | inr q ↦ let r = keep-in ys (rw q at m) in (List·Memᴰ·tail (r .0), r .1)
+        | inr q ↦ let r = filter-in ys (rw q at m) in (List·Memᴰ·tail (r .0), r .1)
       ]
 
-  pub in-keep : {x : A} {xs : List A} → x ∈ xs → p x ≡ true → x ∈ keep p xs
-  unfolding keep
-  in-keep {x} (List·Memᴰ·head {x = y} e) q = rw (ap p (sym e) ∙ q) (List·Memᴰ·head e)
-  in-keep (List·Memᴰ·tail {x = y} m) q =
+  pub in-filter : {x : A} {xs : List A} → x ∈ xs → p x ≡ true → x ∈ filter p xs
+  unfolding filter
+  in-filter {x} (List·Memᴰ·head {x = y} e) q = rw (ap p (sym e) ∙ q) (List·Memᴰ·head e)
+  in-filter (List·Memᴰ·tail {x = y} m) q =
       elim (tested (p y)) [
-        | inl z ↦ rw z (List·Memᴰ·tail (in-keep m q))
-        | inr z ↦ rw z (in-keep m q)
+        | inl z ↦ rw z (List·Memᴰ·tail (in-filter m q))
+        | inr z ↦ rw z (in-filter m q)
       ]
 
-  pub length-keep : (xs : List A) → length (keep p xs) ≤ length xs
-  unfolding keep
-  length-keep [] = omega arith
-  length-keep (x ∷ xs) =
+  pub length-filter : (xs : List A) → length (filter p xs) ≤ length xs
+  unfolding filter
+  length-filter [] = omega arith
+  length-filter (x ∷ xs) =
       elim (tested (p x)) [
-        | inl q ↦ rw q (omega (arith, length-keep xs))
-        | inr q ↦ rw q (omega (arith, length-keep xs))
+        | inl q ↦ rw q (omega (arith, length-filter xs))
+        | inr q ↦ rw q (omega (arith, length-filter xs))
       ]
 
-  pub keep-append : (xs ys : List A) → keep p (xs ++ ys) ≡ keep p xs ++ keep p ys
-  unfolding keep
-  keep-append [] ys = refl
-  keep-append (x ∷ xs) ys =
+  pub filter-append : (xs ys : List A) → filter p (xs ++ ys) ≡ filter p xs ++ filter p ys
+  unfolding filter
+  filter-append [] ys = refl
+  filter-append (x ∷ xs) ys =
       elim (tested (p x)) [
-        | inl q ↦ rw q (ap (λ (zs : List A). x ∷ zs) (keep-append xs ys))
-        | inr q ↦ rw q (keep-append xs ys)
+        | inl q ↦ rw q (ap (λ (zs : List A). x ∷ zs) (filter-append xs ys))
+        | inr q ↦ rw q (filter-append xs ys)
       ]
 
-  pub keep-all : (xs : List A) → ((x : A) → x ∈ xs → p x ≡ true) → keep p xs ≡ xs
-  unfolding keep
-  keep-all [] h = refl
-  keep-all (x ∷ xs) h = rw (h x (List·Memᴰ·head refl)) (ap (λ (zs : List A). x ∷ zs) (keep-all xs (λ y m. h y (List·Memᴰ·tail m))))
+  pub filter-all : (xs : List A) → ((x : A) → x ∈ xs → p x ≡ true) → filter p xs ≡ xs
+  unfolding filter
+  filter-all [] h = refl
+  filter-all (x ∷ xs) h = rw (h x (List·Memᴰ·head refl)) (ap (λ (zs : List A). x ∷ zs) (filter-all xs (λ y m. h y (List·Memᴰ·tail m))))
 
-  pub keep-none : (xs : List A) → ((x : A) → x ∈ xs → p x ≡ false) → keep p xs ≡ []
-  unfolding keep
-  keep-none [] h = refl
-  keep-none (x ∷ xs) h = rw (h x (List·Memᴰ·head refl)) (keep-none xs (λ y m. h y (List·Memᴰ·tail m)))
+  pub filter-none : (xs : List A) → ((x : A) → x ∈ xs → p x ≡ false) → filter p xs ≡ []
+  unfolding filter
+  filter-none [] h = refl
+  filter-none (x ∷ xs) h = rw (h x (List·Memᴰ·head refl)) (filter-none xs (λ y m. h y (List·Memᴰ·tail m)))
 
 -- tests that agree on the members of a list give the same
 module _ {A : Type 0} (p q : A → Bool) where
-  pub keep-same : (xs : List A) → ((x : A) → x ∈ xs → p x ≡ q x) → keep p xs ≡ keep q xs
-  unfolding keep
-  keep-same [] h = refl
-  keep-same (x ∷ xs) h =
+  pub filter-same : (xs : List A) → ((x : A) → x ∈ xs → p x ≡ q x) → filter p xs ≡ filter q xs
+  unfolding filter
+  filter-same [] h = refl
+  filter-same (x ∷ xs) h =
       let e : p x ≡ q x = h x (List·Memᴰ·head refl) in
-      let rest : keep p xs ≡ keep q xs = keep-same xs (λ y m. h y (List·Memᴰ·tail m)) in
+      let rest : filter p xs ≡ filter q xs = filter-same xs (λ y m. h y (List·Memᴰ·tail m)) in
       rw (e, rest)
 
   pub any-same : (xs : List A) → ((x : A) → x ∈ xs → p x ≡ q x) → any p xs ≡ any q xs
@@ -212,68 +213,68 @@ module _ {A : Type 0} (f : A → A) where
 
 -- ---- run, upto
 
-pub length-run : (from k : ℕ) → length (run from k) ≡ k
-unfolding run
-length-run from zero = refl
-length-run from (suc k) = ap suc (length-run (suc from) k)
+pub length-range : (from k : ℕ) → length (range from k) ≡ k
+unfolding range
+length-range from zero = refl
+length-range from (suc k) = ap suc (length-range (suc from) k)
 
-pub run-in : {x : ℕ} (from k : ℕ) → x ∈ run from k → (from ≤ x) × (x < from + k)
-unfolding run
-run-in from zero m = absurd (List·Memᴰ·not-nil m)
-run-in from (suc k) m =
+pub range-in : {x : ℕ} (from k : ℕ) → x ∈ range from k → (from ≤ x) × (x < from + k)
+unfolding range
+range-in from zero m = absurd (List·Memᴰ·not-nil m)
+range-in from (suc k) m =
     elim (List·Memᴰ·cases-cons m) [
       | inl e ↦ omega arith
-      | inr m′ ↦ let r = run-in (suc from) k m′ in omega arith
+      | inr m′ ↦ let r = range-in (suc from) k m′ in omega arith
     ]
 
-pub in-run : (from k x : ℕ) → from ≤ x → x < from + k → x ∈ run from k
-unfolding run
-in-run from zero x h l = absurd (omega arith)
-in-run from (suc k) x h l =
+pub in-range : (from k x : ℕ) → from ≤ x → x < from + k → x ∈ range from k
+unfolding range
+in-range from zero x h l = absurd (omega arith)
+in-range from (suc k) x h l =
     elim (ℕ-discrete x from) [
       | yes e ↦ List·Memᴰ·head e
-      | no n ↦ List·Memᴰ·tail (in-run (suc from) k x (omega arith) (omega arith))
+      | no n ↦ List·Memᴰ·tail (in-range (suc from) k x (omega arith) (omega arith))
     ]
 
-pub getD-run : (from k i d : ℕ) → i < k → getD (run from k) i d ≡ from + i
-unfolding run
-getD-run from zero i d h = absurd (omega arith)
-getD-run from (suc k) zero d h = omega arith
-getD-run from (suc k) (suc i) d h = getD-run (suc from) k i d (omega arith) ∙ omega arith
+pub getD-range : (from k i d : ℕ) → i < k → getD (range from k) i d ≡ from + i
+unfolding range
+getD-range from zero i d h = absurd (omega arith)
+getD-range from (suc k) zero d h = omega arith
+getD-range from (suc k) (suc i) d h = getD-range (suc from) k i d (omega arith) ∙ omega arith
 
-pub run-append : (from j k : ℕ) → run from (j + k) ≡ run from j ++ run (from + j) k
-unfolding run
-run-append from zero k =
+pub range-append : (from j k : ℕ) → range from (j + k) ≡ range from j ++ range (from + j) k
+unfolding range
+range-append from zero k =
     let e : 0 + k ≡ k = omega arith in
     let e′ : from + 0 ≡ from = omega arith in
     rw (e, e′)
-run-append from (suc j) k =
+range-append from (suc j) k =
     let e : suc j + k ≡ suc (j + k) = omega arith in
     let e′ : from + suc j ≡ suc from + j = omega arith in
-    rw (e, e′) (ap (λ (zs : List ℕ). from ∷ zs) (run-append (suc from) j k))
+    rw (e, e′) (ap (λ (zs : List ℕ). from ∷ zs) (range-append (suc from) j k))
 
 pub length-upto : (n : ℕ) → length (upto n) ≡ n
 unfolding upto
-length-upto n = length-run 0 n
+length-upto n = length-range 0 n
 
 pub upto-in : {x : ℕ} (n : ℕ) → x ∈ upto n → x < n
 unfolding upto
-upto-in n m = let r = run-in 0 n m in omega arith
+upto-in n m = let r = range-in 0 n m in omega arith
 
 pub in-upto : (n x : ℕ) → x < n → x ∈ upto n
 unfolding upto
-in-upto n x h = in-run 0 n x (omega arith) (omega arith)
+in-upto n x h = in-range 0 n x (omega arith) (omega arith)
 
 pub getD-upto : (n i d : ℕ) → i < n → getD (upto n) i d ≡ i
 unfolding upto
-getD-upto n i d h = getD-run 0 n i d h ∙ omega arith
+getD-upto n i d h = getD-range 0 n i d h ∙ omega arith
 
 pub upto-suc : (n : ℕ) → upto (suc n) ≡ upto n ++ (n ∷ [])
-unfolding upto run
+unfolding upto range
 upto-suc n =
     let e : suc n ≡ n + 1 = omega arith in
     let e′ : 0 + n ≡ n = omega arith in
-    ap (run 0) e ∙ run-append 0 n 1 ∙ ap (λ (z : ℕ). run 0 n ++ (z ∷ [])) e′
+    ap (range 0) e ∙ range-append 0 n 1 ∙ ap (λ (z : ℕ). range 0 n ++ (z ∷ [])) e′
 
 -- a test of all numbers below n, and of some number below n
 pub upto-none : (p : ℕ → Bool) (n : ℕ) → any p (upto n) ≡ false → (x : ℕ) → x < n → p x ≡ false
@@ -369,53 +370,54 @@ module _ (p : ℕ → Bool) where
   none-first [] e = refl
   none-first (x ∷ xs) e = let r = or-neither (p x) (any p xs) e in rw (r .0) (none-first xs (r .1))
 
-  -- `seek` does too, and gives the number that it is handed where there is none
-  pub seek-first : (d : ℕ) (xs : List ℕ) → any p xs ≡ true → First p xs (seek p d xs)
-  unfolding seek any
-  seek-first d [] e = clash e refl
-  seek-first d (x ∷ xs) e =
+  -- `firstOr` does too, and gives the number that it is handed where there is none
+  pub firstOr-first : (d : ℕ) (xs : List ℕ) → any p xs ≡ true → First p xs (firstOr p d xs)
+  unfolding firstOr any
+  firstOr-first d [] e = clash e refl
+  firstOr-first d (x ∷ xs) e =
       elim (tested (p x)) [
         | inl q ↦ rw q (now x xs q)
-        | inr q ↦ rw q (later x q (seek-first d xs (rw q at e)))
+        | inr q ↦ rw q (later x q (firstOr-first d xs (rw q at e)))
       ]
 
-  pub first-seek : (d : ℕ) (ls : List ℕ) (x : ℕ) (rs : List ℕ) → any p ls ≡ false → p x ≡ true → seek p d (ls ++ x ∷ rs) ≡ x
-  unfolding seek any
-  first-seek d [] x rs e q = rw q
-  first-seek d (y ∷ ls) x rs e q = let r = or-neither (p y) (any p ls) e in rw (r .0) (first-seek d ls x rs (r .1) q)
+  pub first-firstOr : (d : ℕ) (ls : List ℕ) (x : ℕ) (rs : List ℕ) → any p ls ≡ false → p x ≡ true → firstOr p d (ls ++ x ∷ rs) ≡ x
+  unfolding firstOr any
+  first-firstOr d [] x rs e q = rw q
+  first-firstOr d (y ∷ ls) x rs e q = let r = or-neither (p y) (any p ls) e in rw (r .0) (first-firstOr d ls x rs (r .1) q)
 
-  pub seek-none : (d : ℕ) (xs : List ℕ) → any p xs ≡ false → seek p d xs ≡ d
-  unfolding seek any
-  seek-none d [] e = refl
-  seek-none d (x ∷ xs) e = let r = or-neither (p x) (any p xs) e in rw (r .0) (seek-none d xs (r .1))
+  pub firstOr-none : (d : ℕ) (xs : List ℕ) → any p xs ≡ false → firstOr p d xs ≡ d
+  unfolding firstOr any
+  firstOr-none d [] e = refl
+  firstOr-none d (x ∷ xs) e = let r = or-neither (p x) (any p xs) e in rw (r .0) (firstOr-none d xs (r .1))
 
-  pub seek-in : (d : ℕ) (xs : List ℕ) → any p xs ≡ true → (seek p d xs ∈ xs) × (p (seek p d xs) ≡ true)
-  seek-in d xs e = let f = seek-first d xs e in (First-in f, f .passes)
+  pub firstOr-in : (d : ℕ) (xs : List ℕ) → any p xs ≡ true → (firstOr p d xs ∈ xs) × (p (firstOr p d xs) ≡ true)
+  firstOr-in d xs e = let f = firstOr-first d xs e in (First-in f, f .passes)
 
   -- where one member passes and no other does, it is found
-  pub seek-only : (d : ℕ) {xs : List ℕ} (x : ℕ) → x ∈ xs → p x ≡ true → ((y : ℕ) → y ∈ xs → p y ≡ true → y ≡ x) → seek p d xs ≡ x
-  seek-only d {xs} x m q only = let r = seek-in d xs (true-any p m q) in only (seek p d xs) (r .0) (r .1)
+  pub firstOr-only : (d : ℕ) {xs : List ℕ} (x : ℕ) → x ∈ xs → p x ≡ true → ((y : ℕ) → y ∈ xs → p y ≡ true → y ≡ x) →
+      firstOr p d xs ≡ x
+  firstOr-only d {xs} x m q only = let r = firstOr-in d xs (true-any p m q) in only (firstOr p d xs) (r .0) (r .1)
 
 -- the same list of places, the same first
-pub seek-same : (p q : ℕ → Bool) (d : ℕ) (xs : List ℕ) → ((x : ℕ) → x ∈ xs → p x ≡ q x) → seek p d xs ≡ seek q d xs
-unfolding seek
-seek-same p q d [] h = refl
-seek-same p q d (x ∷ xs) h =
+pub firstOr-same : (p q : ℕ → Bool) (d : ℕ) (xs : List ℕ) → ((x : ℕ) → x ∈ xs → p x ≡ q x) → firstOr p d xs ≡ firstOr q d xs
+unfolding firstOr
+firstOr-same p q d [] h = refl
+firstOr-same p q d (x ∷ xs) h =
     let e : p x ≡ q x = h x (List·Memᴰ·head refl) in
-    let rest : seek p d xs ≡ seek q d xs = seek-same p q d xs (λ y m. h y (List·Memᴰ·tail m)) in
+    let rest : firstOr p d xs ≡ firstOr q d xs = firstOr-same p q d xs (λ y m. h y (List·Memᴰ·tail m)) in
     rw (e, rest)
 
 -- of numbers in order, the first that passes is the least
-pub First-run : (p : ℕ → Bool) (from k x : ℕ) → First p (run from k) x → (y : ℕ) → from ≤ y → y < x → p y ≡ false
-First-run p from k x f y h l =
-    let n : length (run from k) ≡ length (f .ahead) + suc (length (f .behind)) = ap length (f .split) ∙ length-append (f .ahead) (x ∷ f .behind) in
+pub First-range : (p : ℕ → Bool) (from k x : ℕ) → First p (range from k) x → (y : ℕ) → from ≤ y → y < x → p y ≡ false
+First-range p from k x f y h l =
+    let n : length (range from k) ≡ length (f .ahead) + suc (length (f .behind)) = ap length (f .split) ∙ length-append (f .ahead) (x ∷ f .behind) in
     let at : from + length (f .ahead) ≡ x =
-    sym (getD-run from k (length (f .ahead)) 0 (omega (arith, length-run from k)))
+    sym (getD-range from k (length (f .ahead)) 0 (omega (arith, length-range from k)))
     ∙ ap (λ (zs : List ℕ). getD zs (length (f .ahead)) 0) (f .split) ∙ getD-append-seam (f .ahead) x (f .behind) 0 in
     let i : y - from < length (f .ahead) = omega arith in
     let is : getD (f .ahead) (y - from) 0 ≡ y =
     sym (List·getD-append (f .ahead) (x ∷ f .behind) 0 (y - from) i) ∙ ap (λ (zs : List ℕ). getD zs (y - from) 0) (sym (f .split))
-    ∙ getD-run from k (y - from) 0 (omega (arith, length-run from k)) ∙ omega arith in
+    ∙ getD-range from k (y - from) 0 (omega (arith, length-range from k)) ∙ omega arith in
     any-false p (f .ahead) (f .before) (Memᴰ·cast (sym is) (getD-in (f .ahead) (y - from) 0 i))
 
 -- ---- least
@@ -423,30 +425,30 @@ First-run p from k x f y h l =
 differ : {X : Type 0} {x : ℕ} → some x ≡ none → X
 differ {x} e = let z : _≡_ {A = ℕ} 0 1 = cc in absurd (omega arith)
 
-pub least-none : (xs : List ℕ) → least xs ≡ none → xs ≡ []
-unfolding least
-least-none [] e = refl
-least-none (x ∷ xs) e = go (least xs) refl
+pub minimum-none : (xs : List ℕ) → minimum xs ≡ none → xs ≡ []
+unfolding minimum
+minimum-none [] e = refl
+minimum-none (x ∷ xs) e = go (minimum xs) refl
   where
-    go : (o : Option ℕ) → least xs ≡ o → x ∷ xs ≡ []
+    go : (o : Option ℕ) → minimum xs ≡ o → x ∷ xs ≡ []
     go none q = differ (rw q at e)
     go (some y) q = differ (rw q at e)
 
-pub least-some : (xs : List ℕ) (x : ℕ) → least xs ≡ some x → (x ∈ xs) × ((y : ℕ) → y ∈ xs → x ≤ y)
-unfolding least
-least-some [] x e = differ (sym e)
-least-some (a ∷ xs) x e = go (least-some xs) (least xs) refl
+pub minimum-some : (xs : List ℕ) (x : ℕ) → minimum xs ≡ some x → (x ∈ xs) × ((y : ℕ) → y ∈ xs → x ≤ y)
+unfolding minimum
+minimum-some [] x e = differ (sym e)
+minimum-some (a ∷ xs) x e = go (minimum-some xs) (minimum xs) refl
   where
     below : (z : ℕ) → x ≤ a → x ≤ z → ((y : ℕ) → y ∈ xs → z ≤ y) → (y : ℕ) → y ∈ a ∷ xs → x ≤ y
     below z g h r y (List·Memᴰ·head i) = omega arith
     below z g h r y (List·Memᴰ·tail m) = omega (arith, r y m)
 
-    go : ((x : ℕ) → least xs ≡ some x → (x ∈ xs) × ((y : ℕ) → y ∈ xs → x ≤ y)) → (o : Option ℕ) → least xs ≡ o
+    go : ((x : ℕ) → minimum xs ≡ some x → (x ∈ xs) × ((y : ℕ) → y ∈ xs → x ≤ y)) → (o : Option ℕ) → minimum xs ≡ o
         → (x ∈ a ∷ xs) × ((y : ℕ) → y ∈ a ∷ xs → x ≤ y)
     go ih none q =
         let s : some a ≡ some x = rw q at e in
         let i : a ≡ x = cc in
-        let none-in : (y : ℕ) → y ∈ xs → a ≤ y = λ y m. absurd (List·Memᴰ·not-nil (rw (least-none xs q) at m)) in
+        let none-in : (y : ℕ) → y ∈ xs → a ≤ y = λ y m. absurd (List·Memᴰ·not-nil (rw (minimum-none xs q) at m)) in
         (List·Memᴰ·head (sym i), below a (omega arith) (omega arith) none-in)
     go ih (some z) q =
         let s : some (min a z) ≡ some x = rw q at e in
@@ -457,40 +459,40 @@ least-some (a ∷ xs) x e = go (least-some xs) (least xs) refl
           | no h ↦ let j : x ≡ z = omega arith in (List·Memᴰ·tail (Memᴰ·cast j (r .0)), below z (omega arith) (omega arith) (r .1))
         ]
 
-pub some-least : (xs : List ℕ) (x : ℕ) → x ∈ xs → ((y : ℕ) → y ∈ xs → x ≤ y) → least xs ≡ some x
-some-least xs x m h = go (least xs) refl
+pub some-minimum : (xs : List ℕ) (x : ℕ) → x ∈ xs → ((y : ℕ) → y ∈ xs → x ≤ y) → minimum xs ≡ some x
+some-minimum xs x m h = go (minimum xs) refl
   where
-    go : (o : Option ℕ) → least xs ≡ o → least xs ≡ some x
-    go none q = absurd (List·Memᴰ·not-nil (rw (least-none xs q) at m))
-    go (some z) q = let r = least-some xs z q in let i : z ≡ x = omega (arith, r .1 x m, h z (r .0)) in rw i at q
+    go : (o : Option ℕ) → minimum xs ≡ o → minimum xs ≡ some x
+    go none q = absurd (List·Memᴰ·not-nil (rw (minimum-none xs q) at m))
+    go (some z) q = let r = minimum-some xs z q in let i : z ≡ x = omega (arith, r .1 x m, h z (r .0)) in rw i at q
 
 -- ---- front
 
-pub front-snoc : (xs : List ℕ) (x : ℕ) → front (xs ++ (x ∷ [])) ≡ xs
-unfolding front
-front-snoc [] x = refl
-front-snoc (y ∷ []) x = refl
-front-snoc (y ∷ z ∷ xs) x = ap (λ (zs : List ℕ). y ∷ zs) (front-snoc (z ∷ xs) x)
+pub init-snoc : (xs : List ℕ) (x : ℕ) → init (xs ++ (x ∷ [])) ≡ xs
+unfolding init
+init-snoc [] x = refl
+init-snoc (y ∷ []) x = refl
+init-snoc (y ∷ z ∷ xs) x = ap (λ (zs : List ℕ). y ∷ zs) (init-snoc (z ∷ xs) x)
 
-pub length-front : (xs : List ℕ) → length (front xs) ≡ length xs - 1
-unfolding front
-length-front [] = refl
-length-front (x ∷ []) = refl
-length-front (x ∷ y ∷ xs) = omega (arith, length-front (y ∷ xs))
+pub length-init : (xs : List ℕ) → length (init xs) ≡ length xs - 1
+unfolding init
+length-init [] = refl
+length-init (x ∷ []) = refl
+length-init (x ∷ y ∷ xs) = omega (arith, length-init (y ∷ xs))
 
-pub front-in : {x : ℕ} (xs : List ℕ) → x ∈ front xs → x ∈ xs
-unfolding front
-front-in [] m = m
-front-in (x ∷ []) m = absurd (List·Memᴰ·not-nil m)
-front-in (x ∷ y ∷ xs) m =
-    elim (List·Memᴰ·cases-cons m) [ inl e ↦ List·Memᴰ·head e | inr m′ ↦ List·Memᴰ·tail (front-in (y ∷ xs) m′) ]
+pub init-in : {x : ℕ} (xs : List ℕ) → x ∈ init xs → x ∈ xs
+unfolding init
+init-in [] m = m
+init-in (x ∷ []) m = absurd (List·Memᴰ·not-nil m)
+init-in (x ∷ y ∷ xs) m =
+    elim (List·Memᴰ·cases-cons m) [ inl e ↦ List·Memᴰ·head e | inr m′ ↦ List·Memᴰ·tail (init-in (y ∷ xs) m′) ]
 
-pub getD-front : (xs : List ℕ) (i d : ℕ) → suc i < length xs → getD (front xs) i d ≡ getD xs i d
-unfolding front
-getD-front [] i d h = absurd (omega arith)
-getD-front (x ∷ []) i d h = absurd (omega arith)
-getD-front (x ∷ y ∷ xs) zero d h = refl
-getD-front (x ∷ y ∷ xs) (suc i) d h = getD-front (y ∷ xs) i d (omega arith)
+pub getD-init : (xs : List ℕ) (i d : ℕ) → suc i < length xs → getD (init xs) i d ≡ getD xs i d
+unfolding init
+getD-init [] i d h = absurd (omega arith)
+getD-init (x ∷ []) i d h = absurd (omega arith)
+getD-init (x ∷ y ∷ xs) zero d h = refl
+getD-init (x ∷ y ∷ xs) (suc i) d h = getD-init (y ∷ xs) i d (omega arith)
 
 -- ---- total, totalAbs
 

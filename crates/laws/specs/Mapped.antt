@@ -3,7 +3,7 @@ use mathlib.Core.Path.{_≡_, refl, ap}
 use mathlib.Core.Bool.{Bool}
 use mathlib.Core.Logic.{inl, inr}
 use mathlib.Core.List.{List, [], _∷_, _++_, map}
-use Rattle.definitions.specs.Words.{keep}
+use Rattle.definitions.specs.Lists.{filter}
 use Rattle.laws.specs.Lists.{tested}
 
 module _ {A B : Type 0} (f : A → B) where
@@ -11,11 +11,11 @@ module _ {A B : Type 0} (f : A → B) where
   map-append [] ys = refl
   map-append (x ∷ xs) ys = ap (λ (r : List B). f x ∷ r) (map-append xs ys)
 
-  pub keep-map : (p : B → Bool) (xs : List A) → keep p (map f xs) ≡ map f (keep (λ x. p (f x)) xs)
-  unfolding keep
-  keep-map p [] = refl
-  keep-map p (x ∷ xs) =
+  pub filter-map : (p : B → Bool) (xs : List A) → filter p (map f xs) ≡ map f (filter (λ x. p (f x)) xs)
+  unfolding filter
+  filter-map p [] = refl
+  filter-map p (x ∷ xs) =
       elim (tested (p (f x))) [
-        | inl t ↦ rw t (ap (λ (r : List B). f x ∷ r) (keep-map p xs))
-        | inr t ↦ rw t (keep-map p xs)
+        | inl t ↦ rw t (ap (λ (r : List B). f x ∷ r) (filter-map p xs))
+        | inr t ↦ rw t (filter-map p xs)
       ]

@@ -8,7 +8,7 @@ use lib.Dec.{eqb}
 use lib.ListN.{getD}
 use lib.IntN.{ℤ, pos, _+ℤ_, +ℤ-idl, +ℤ-idr}
 use borrow.Author.Tests.{eq-eqb, ne-eqb}
-use Rattle.definitions.specs.Words.{run}
+use Rattle.definitions.specs.Lists.{range}
 use Rattle.laws.specs.Integers.{int, zpos, z+}
 use Rattle.laws.specs.Sums.{sum, sum-same, sum-plus, sum-change, sum-zero}
 
@@ -47,14 +47,16 @@ abbrev pub weigh : (ℕ → ℕ) → (ℕ → ℤ) → ℕ → ℕ → ℤ
 weigh m z a k = sum (λ u. times (m u) (z u)) a k
 
 -- multiples that add up
-pub weigh-plus : (l m o : ℕ → ℕ) (z : ℕ → ℤ) (a k : ℕ) → ((u : ℕ) → a ≤ u → u < a + k → l u ≡ m u + o u) → weigh l z a k ≡ weigh m z a k +ℤ weigh o z a k
+pub weigh-plus : (l m o : ℕ → ℕ) (z : ℕ → ℤ) (a k : ℕ) → ((u : ℕ) → a ≤ u → u < a + k → l u ≡ m u + o u) →
+    weigh l z a k ≡ weigh m z a k +ℤ weigh o z a k
 weigh-plus l m o z a k h =
     sum-same (λ u. times (l u) (z u)) (λ u. times (m u) (z u) +ℤ times (o u) (z u)) a k
     (λ u i j. ap (λ (c : ℕ). times c (z u)) (h u i j) ∙ times-plus (m u) (o u) (z u))
     ∙ sum-plus (λ u. times (m u) (z u)) (λ u. times (o u) (z u)) a k
 
 -- the same multiples, none, and one of each
-pub weigh-same : (l m : ℕ → ℕ) (z : ℕ → ℤ) (a k : ℕ) → ((u : ℕ) → a ≤ u → u < a + k → l u ≡ m u) → weigh l z a k ≡ weigh m z a k
+pub weigh-same : (l m : ℕ → ℕ) (z : ℕ → ℤ) (a k : ℕ) → ((u : ℕ) → a ≤ u → u < a + k → l u ≡ m u) →
+    weigh l z a k ≡ weigh m z a k
 weigh-same l m z a k h = sum-same (λ u. times (l u) (z u)) (λ u. times (m u) (z u)) a k (λ u i j. ap (λ (c : ℕ). times c (z u)) (h u i j))
 
 pub weigh-none : (m : ℕ → ℕ) (z : ℕ → ℤ) (a k : ℕ) → ((u : ℕ) → a ≤ u → u < a + k → m u ≡ 0) → weigh m z a k ≡ pos 0
@@ -78,15 +80,15 @@ weigh-one t z a k h l =
 
 module _ {A : Type 0} where
   -- the same at each index
-  pub map-run-same : (f g : ℕ → A) (a k : ℕ) → ((u : ℕ) → a ≤ u → u < a + k → f u ≡ g u) → map f (run a k) ≡ map g (run a k)
-  unfolding run
-  map-run-same f g a zero h = refl
-  map-run-same f g a (suc k) h =
-      ap₂ _∷_ (h a (omega arith) (omega arith)) (map-run-same f g (suc a) k (λ u i j. h u (omega arith) (omega arith)))
+  pub map-range-same : (f g : ℕ → A) (a k : ℕ) → ((u : ℕ) → a ≤ u → u < a + k → f u ≡ g u) → map f (range a k) ≡ map g (range a k)
+  unfolding range
+  map-range-same f g a zero h = refl
+  map-range-same f g a (suc k) h =
+      ap₂ _∷_ (h a (omega arith) (omega arith)) (map-range-same f g (suc a) k (λ u i j. h u (omega arith) (omega arith)))
 
   -- what stands at a place
-  pub getD-map-run : (f : ℕ → A) (a k i : ℕ) (d : A) → i < k → getD (map f (run a k)) i d ≡ f (a + i)
-  unfolding run
-  getD-map-run f a zero i d h = absurd (omega arith)
-  getD-map-run f a (suc k) zero d h = let e : a ≡ a + 0 = omega arith in ap f e
-  getD-map-run f a (suc k) (suc i) d h = let e : suc a + i ≡ a + suc i = omega arith in getD-map-run f (suc a) k i d (omega arith) ∙ ap f e
+  pub getD-map-range : (f : ℕ → A) (a k i : ℕ) (d : A) → i < k → getD (map f (range a k)) i d ≡ f (a + i)
+  unfolding range
+  getD-map-range f a zero i d h = absurd (omega arith)
+  getD-map-range f a (suc k) zero d h = let e : a ≡ a + 0 = omega arith in ap f e
+  getD-map-range f a (suc k) (suc i) d h = let e : suc a + i ≡ a + suc i = omega arith in getD-map-range f (suc a) k i d (omega arith) ∙ ap f e

@@ -10,43 +10,43 @@ use native.Mathlib.Decide.{ℕ-discrete}
 use lib.ListN.{length, getD}
 use lib.IntN.{ℤ, pos, negsuc, natAbs, _+ℤ_}
 use lib.Signed.{_≤ℤ_, ≤ℤ-refl}
-use Rattle.definitions.specs.Words.{run, keep, total, totalAbs}
-use Rattle.laws.specs.Lists.{tested, keep-same, run-in}
+use Rattle.definitions.specs.Lists.{range, filter, total, totalAbs}
+use Rattle.laws.specs.Lists.{tested, filter-same, range-in}
 use Rattle.laws.specs.Integers.{up, dn, int, zabs, z+}
 
 -- ---- runs
 
 module _ {A : Type 0} where
-  pub map-run-suc : (f : ℕ → A) (a k : ℕ) → map f (run (suc a) k) ≡ map (λ i. f (suc i)) (run a k)
-  unfolding run
-  map-run-suc f a zero = refl
-  map-run-suc f a (suc k) = ap (λ (xs : List A). f (suc a) ∷ xs) (map-run-suc f (suc a) k)
+  pub map-range-suc : (f : ℕ → A) (a k : ℕ) → map f (range (suc a) k) ≡ map (λ i. f (suc i)) (range a k)
+  unfolding range
+  map-range-suc f a zero = refl
+  map-range-suc f a (suc k) = ap (λ (xs : List A). f (suc a) ∷ xs) (map-range-suc f (suc a) k)
 
   -- a list is what stands at its places
-  pub map-getD : (xs : List A) (d : A) → map (λ i. getD xs i d) (run 0 (length xs)) ≡ xs
-  unfolding run
+  pub map-getD : (xs : List A) (d : A) → map (λ i. getD xs i d) (range 0 (length xs)) ≡ xs
+  unfolding range
   map-getD [] d = refl
-  map-getD (x ∷ xs) d = ap (λ (ys : List A). x ∷ ys) (map-run-suc (λ i. getD (x ∷ xs) i d) 0 (length xs) ∙ map-getD xs d)
+  map-getD (x ∷ xs) d = ap (λ (ys : List A). x ∷ ys) (map-range-suc (λ i. getD (x ∷ xs) i d) 0 (length xs) ∙ map-getD xs d)
 
   -- with places numbered from 1
-  pub map-getD-suc : (x : A) (xs : List A) (d : A) → map (λ i. getD (x ∷ xs) i d) (run 1 (length xs)) ≡ xs
-  map-getD-suc x xs d = map-run-suc (λ i. getD (x ∷ xs) i d) 0 (length xs) ∙ map-getD xs d
+  pub map-getD-suc : (x : A) (xs : List A) (d : A) → map (λ i. getD (x ∷ xs) i d) (range 1 (length xs)) ≡ xs
+  map-getD-suc x xs d = map-range-suc (λ i. getD (x ∷ xs) i d) 0 (length xs) ∙ map-getD xs d
 
 -- ---- sums over a run
 
 -- a number for each of k indices from a on
 abbrev pub sum : (ℕ → ℤ) → ℕ → ℕ → ℤ
-sum f a k = total (map f (run a k))
+sum f a k = total (map f (range a k))
 
 -- equal terms, equal sums
 pub sum-same : (f g : ℕ → ℤ) (a k : ℕ) → ((u : ℕ) → a ≤ u → u < a + k → f u ≡ g u) → sum f a k ≡ sum g a k
-unfolding run total
+unfolding range total
 sum-same f g a zero h = refl
 sum-same f g a (suc k) h = ap₂ _+ℤ_ (h a (omega arith) (omega arith)) (sum-same f g (suc a) k (λ u l m. h u (omega arith) (omega arith)))
 
 -- terms that add up, sums that add up
 pub sum-plus : (f g : ℕ → ℤ) (a k : ℕ) → sum (λ u. f u +ℤ g u) a k ≡ sum f a k +ℤ sum g a k
-unfolding run total
+unfolding range total
 sum-plus f g a zero = refl
 sum-plus f g a (suc k) =
     let F = sum f (suc a) k in
@@ -56,9 +56,10 @@ sum-plus f g a (suc k) =
     omega (int, z+ (f a) (g a), z+ F G, z+ (f a +ℤ g a) H, z+ (f a) F, z+ (g a) G, z+ (f a +ℤ F) (g a +ℤ G))
 
 -- one term more by x, the sum more by x
-pub sum-change : (f g : ℕ → ℤ) (t : ℕ) (x : ℤ) (a k : ℕ) → ((u : ℕ) → u ≢ t → g u ≡ f u) → g t ≡ f t +ℤ x → a ≤ t → t < a + k →
+pub sum-change : (f g : ℕ → ℤ) (t : ℕ) (x : ℤ) (a k : ℕ) → ((u : ℕ) → u ≢ t → g u ≡ f u) → g t ≡ f t +ℤ x → a ≤ t →
+    t < a + k →
     sum g a k ≡ sum f a k +ℤ x
-unfolding run total
+unfolding range total
 sum-change f g t x a zero h e l m = absurd (omega arith)
 sum-change f g t x a (suc k) h e l m =
     let F = sum f (suc a) k in
@@ -76,7 +77,7 @@ sum-change f g t x a (suc k) h e l m =
 
 -- no term greater, the sum not greater
 pub sum-le : (f g : ℕ → ℤ) (a k : ℕ) → ((u : ℕ) → a ≤ u → u < a + k → f u ≤ℤ g u) → sum f a k ≤ℤ sum g a k
-unfolding run total
+unfolding range total
 sum-le f g a zero h = ≤ℤ-refl (pos 0)
 sum-le f g a (suc k) h =
     let F = sum f (suc a) k in
@@ -86,9 +87,10 @@ sum-le f g a (suc k) h =
     omega (int, z+ (f a) F, z+ (g a) G)
 
 -- and with one term less by x, the sum less by x
-pub sum-gap : (f g : ℕ → ℤ) (t : ℕ) (x : ℤ) (a k : ℕ) → ((u : ℕ) → a ≤ u → u < a + k → f u ≤ℤ g u) → (f t +ℤ x) ≤ℤ g t → a ≤ t → t < a + k →
+pub sum-gap : (f g : ℕ → ℤ) (t : ℕ) (x : ℤ) (a k : ℕ) → ((u : ℕ) → a ≤ u → u < a + k → f u ≤ℤ g u) → (f t +ℤ x) ≤ℤ g t →
+    a ≤ t → t < a + k →
     (sum f a k +ℤ x) ≤ℤ sum g a k
-unfolding run total
+unfolding range total
 sum-gap f g t x a zero h e l m = absurd (omega arith)
 sum-gap f g t x a (suc k) h e l m =
     let F = sum f (suc a) k in
@@ -106,7 +108,7 @@ sum-gap f g t x a (suc k) h e l m =
 
 -- nothing to sum
 pub sum-zero : (f : ℕ → ℤ) (a k : ℕ) → ((u : ℕ) → a ≤ u → u < a + k → f u ≡ pos 0) → sum f a k ≡ pos 0
-unfolding run total
+unfolding range total
 sum-zero f a zero h = refl
 sum-zero f a (suc k) h = ap₂ _+ℤ_ (h a (omega arith) (omega arith)) (sum-zero f (suc a) k (λ u l m. h u (omega arith) (omega arith)))
 
@@ -133,20 +135,22 @@ totalAbs-le f g h (u ∷ us) = omega (arith, h u, totalAbs-le f g h us)
 
 -- ---- counts over a run
 
-keep-same-run : (p q : ℕ → Bool) (a k : ℕ) → ((u : ℕ) → a ≤ u → u < a + k → q u ≡ p u) → keep q (run a k) ≡ keep p (run a k)
-keep-same-run p q a k h = keep-same q p (run a k) (λ u m. let r = run-in a k m in h u (r .0) (r .1))
+filter-same-range : (p q : ℕ → Bool) (a k : ℕ) → ((u : ℕ) → a ≤ u → u < a + k → q u ≡ p u) →
+    filter q (range a k) ≡ filter p (range a k)
+filter-same-range p q a k h = filter-same q p (range a k) (λ u m. let r = range-in a k m in h u (r .0) (r .1))
 
 -- where one more index passes a test, the count is one more
-pub count-change : (p q : ℕ → Bool) (t a k : ℕ) → ((u : ℕ) → u ≢ t → q u ≡ p u) → p t ≡ false → q t ≡ true → a ≤ t → t < a + k →
-    length (keep q (run a k)) ≡ suc (length (keep p (run a k)))
-unfolding run keep
+pub count-change : (p q : ℕ → Bool) (t a k : ℕ) → ((u : ℕ) → u ≢ t → q u ≡ p u) → p t ≡ false → q t ≡ true → a ≤ t → t < a + k
+    →
+    length (filter q (range a k)) ≡ suc (length (filter p (range a k)))
+unfolding range filter
 count-change p q t a zero h f g l m = absurd (omega arith)
 count-change p q t a (suc k) h f g l m =
     elim (ℕ-discrete a t) [
       | yes e ↦
           let fa : p a ≡ false = rw e f in
           let ga : q a ≡ true = rw e g in
-          let r : keep q (run (suc a) k) ≡ keep p (run (suc a) k) = keep-same-run p q (suc a) k (λ u i j. h u (omega arith)) in
+          let r : filter q (range (suc a) k) ≡ filter p (range (suc a) k) = filter-same-range p q (suc a) k (λ u i j. h u (omega arith)) in
           rw (fa, ga, r)
       | no d ↦
           let r = count-change p q t (suc a) k h f g (omega arith) (omega arith) in

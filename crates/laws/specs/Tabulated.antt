@@ -8,17 +8,17 @@ use native.Mathlib.Omega.{arith}
 use native.Mathlib.Decide.{ℕ-discrete}
 use lib.ListN.{length, getD, set, length-map, length-set}
 use lib.Seq.{ext-getD, getD-set-same, getD-set-other}
-use Rattle.definitions.specs.Words.{run, any, seek}
-use Rattle.laws.specs.Lists.{_∈_, tested, length-run, seek-in, seek-none}
-use Rattle.laws.specs.Multiples.{getD-map-run}
+use Rattle.definitions.specs.Lists.{range, any, firstOr}
+use Rattle.laws.specs.Lists.{_∈_, tested, length-range, firstOr-in, firstOr-none}
+use Rattle.laws.specs.Multiples.{getD-map-range}
 
 -- what is found is one of those that were looked at, or the number for none
-pub seek-either : (p : ℕ → Bool) (d : ℕ) (xs : List ℕ) → (seek p d xs ≡ d) ⊎ (seek p d xs ∈ xs)
-seek-either p d xs = ⊎-elim (λ e. inr (seek-in p d xs e .0)) (λ e. inl (seek-none p d xs e)) (tested (any p xs))
+pub firstOr-either : (p : ℕ → Bool) (d : ℕ) (xs : List ℕ) → (firstOr p d xs ≡ d) ⊎ (firstOr p d xs ∈ xs)
+firstOr-either p d xs = ⊎-elim (λ e. inr (firstOr-in p d xs e .0)) (λ e. inl (firstOr-none p d xs e)) (tested (any p xs))
 
 module _ {A : Type 0} where
-  pub length-table : (f : ℕ → A) (from k : ℕ) → length (map f (run from k)) ≡ k
-  length-table f from k = length-map (run from k) f ∙ length-run from k
+  pub length-table : (f : ℕ → A) (from k : ℕ) → length (map f (range from k)) ≡ k
+  length-table f from k = length-map (range from k) f ∙ length-range from k
 
   module _ (f : ℕ → A) (from k : ℕ) (d : A) where
     -- a list as long as the table, whose first i entries are the table's
@@ -38,7 +38,7 @@ module _ {A : Type 0} where
       ];
     }
 
-    pub filled-all : (xs : List A) (i : ℕ) → k ≤ i → Filled xs i → xs ≡ map f (run from k)
+    pub filled-all : (xs : List A) (i : ℕ) → k ≤ i → Filled xs i → xs ≡ map f (range from k)
     filled-all xs i h q =
-        ext-getD d xs (map f (run from k)) (q .long ∙ sym (length-table f from k))
-        (λ j g. q .entries j (omega (arith, q .long)) ∙ sym (getD-map-run f from k j d (omega (arith, q .long))))
+        ext-getD d xs (map f (range from k)) (q .long ∙ sym (length-table f from k))
+        (λ j g. q .entries j (omega (arith, q .long)) ∙ sym (getD-map-range f from k j d (omega (arith, q .long))))

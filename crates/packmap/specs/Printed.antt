@@ -9,16 +9,16 @@ use lib.ListN.{length, take, drop}
 use lib.Seq.{length-take-le}
 use lib.IntN.{ℤ, pos}
 use borrow.Author.Tests.{ltb-true}
-use Rattle.definitions.specs.Answers.{Answer, done, refused, plain, broken, Refusal, number}
-use Rattle.definitions.specs.Job.{bytes, writeLine, runJob, lineOf, told, prints}
-use Rattle.textlaws.specs.Numbers.{decimal-short}
-use Rattle.textlaws.specs.Reading.{job-long}
-use Rattle.textlaws.specs.Writing.{tabbed, Wrote, line-length, tabbed-more}
-use Rattle.job.specs.Outcome.{outcome}
-use Rattle.job.specs.Told.{jobTold}
-use Rattle.job.specs.Laws.{run-refused, listing-room}
-use Rattle.job.specs.declared.JobAnswer.{JobAnswer}
-use Rattle.job.specs.declared.JobAnswer.the-variants.{Listed, Refused, Broken}
+use Rattle.definitions.specs.Answers.{Answer, done, refused, numbered, lineBroken, Refusal, number}
+use Rattle.definitions.specs.Job.{bytes, writeLine, runJob, lineOf, toldWithText, prints}
+use Rattle.text_model.specs.Numbers.{decimal-short}
+use Rattle.text_model.specs.Reading.{job-long}
+use Rattle.text_model.specs.Writing.{tabbed, Wrote, line-length, tabbed-more}
+use Rattle.job_call.specs.Model.{outcome}
+use Rattle.job_call.specs.Answer.{jobToAnswer}
+use Rattle.job_call.specs.Outcomes.{run-refused, listing-room}
+use Rattle.job_call.specs.declared.JobAnswer.{JobAnswer}
+use Rattle.job_call.specs.declared.JobAnswer.the-variants.{Listed, Refused, Broken}
 
 -- the line of a refusal
 abbrev pub refusalLine : ℕ → ℕ → List ℕ
@@ -44,7 +44,8 @@ module _ (k l : ℕ) (xs : List ℤ) (is : xs ≡ pos k ∷ pos l ∷ []) (hk : 
   pub refusal-room : (out : List ℕ) → 16384 ≤ length out → length (writeLine (bytes "refused") xs) ≤ length out
   refusal-room out room = omega (arith, refusal-short k l hk hl, ap {B = ℕ} length same)
 
-  pub refusal-wrote : (before after : List ℕ) (r : ℕ) → Wrote (writeLine (bytes "refused") xs) before after r → Wrote (refusalLine k l) before after r × (r ≤ 16384)
+  pub refusal-wrote : (before after : List ℕ) (r : ℕ) → Wrote (writeLine (bytes "refused") xs) before after r → Wrote (refusalLine k l) before after r
+      × (r ≤ 16384)
   refusal-wrote before after r h = (rw same at h, omega (arith, h .count, refusal-short k l hk hl, ap {B = ℕ} length same))
 
 -- ---- a text, and a buffer with room for every listing
@@ -87,32 +88,35 @@ module _ (text before : List ℕ) (room : 16384 ≤ length before) where
       go (done bytes) p = fits bytes p (ltb (length before) (length bytes)) refl
 
   -- as the code hands it over: the answer r of the job, and what it left in the buffer
-  module _ (r : JobAnswer) (told-it : jobTold r ≡ outcome (runJob text) before .answer) (mid : List ℕ) (left : mid ≡ outcome (runJob text) before .buffer) where
+  module _ (r : JobAnswer) (told-it : jobToAnswer r ≡ outcome (runJob text) before .answer) (mid : List ℕ)
+      (left : mid ≡ outcome (runJob text) before .buffer) where
     pub listed-printed : (k : ℕ) → r ≡ Listed k → Wrote (prints text) before mid k
     listed-printed k e =
-        let d = printed-done k (sym (ap jobTold e) ∙ told-it) in
+        let d = printed-done k (sym (ap jobToAnswer e) ∙ told-it) in
         record { count = d .0; puts = record { bytes = left ∙ d .1 } }
 
     pub listed-short : (k : ℕ) → r ≡ Listed k → k ≤ 16384
-    listed-short k e = printed-done k (sym (ap jobTold e) ∙ told-it) .2
+    listed-short k e = printed-done k (sym (ap jobToAnswer e) ∙ told-it) .2
 
-    pub refused-printed : (k : ℕ) → r ≡ Refused k → (after : List ℕ) (m : ℕ) → Wrote (refusalLine k 0) mid after m → Wrote (prints text) before after m
+    pub refused-printed : (k : ℕ) → r ≡ Refused k → (after : List ℕ) (m : ℕ) → Wrote (refusalLine k 0) mid after m →
+        Wrote (prints text) before after m
     unfolding lineOf
     refused-printed k e after m h =
-        let d = printed-refused (plain k) (sym (ap jobTold e) ∙ told-it) in
+        let d = printed-refused (numbered k) (sym (ap jobToAnswer e) ∙ told-it) in
         rw (d .0, left ∙ d .1) at h
 
-    pub broken-printed : (l : ℕ) → r ≡ Broken l → (after : List ℕ) (m : ℕ) → Wrote (refusalLine 17 l) mid after m → Wrote (prints text) before after m
+    pub broken-printed : (l : ℕ) → r ≡ Broken l → (after : List ℕ) (m : ℕ) → Wrote (refusalLine 17 l) mid after m →
+        Wrote (prints text) before after m
     unfolding lineOf
     broken-printed l e after m h =
-        let d = printed-refused (broken l) (sym (ap jobTold e) ∙ told-it) in
+        let d = printed-refused (lineBroken l) (sym (ap jobToAnswer e) ∙ told-it) in
         rw (d .0, left ∙ d .1) at h
 
 -- ---- a text that is too long
 
 long-prints : (text : List ℕ) → 16384 < length text → prints text ≡ refusalLine 19 0
-unfolding prints told lineOf
-long-prints text h = rw (run-refused text (plain 19) (job-long text h), prints) refl
+unfolding prints toldWithText lineOf
+long-prints text h = rw (run-refused text (numbered 19) (job-long text h), prints) refl
 
 -- its first 16,385 bytes say all
 pub long-same : (text : List ℕ) → 16384 < length text → prints text ≡ prints (take 16385 text)

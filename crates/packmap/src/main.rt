@@ -1,5 +1,5 @@
 // packmap: a job text on standard input, its listing on standard output; a refusal prints one line: refused, number, line.
-use job::JobAnswer;
+use job_call::JobAnswer;
 use libc::STDIN_FILENO;
 use libc::STDOUT_FILENO;
 ghost use Prim.Native.Nat.{_≤_};
@@ -8,7 +8,7 @@ ghost use mathlib.Core.List.{[], _∷_};
 ghost use lib.ListN.{length};
 ghost use lib.IntN.{pos};
 ghost use Rattle.definitions.specs.Job.{prints};
-ghost use Rattle.textlaws.specs.Writing.{Wrote};
+ghost use Rattle.text_model.specs.Writing.{Wrote};
 ghost use Rattle.packmap.specs.Printed.{refusalLine};
 
 fn signed(x: u32) -> i64
@@ -30,7 +30,7 @@ fn put_refusal(number: u32, line: u32, out: &mut [u8]) -> usize
     ensures short { λ r. ⌜ r ≤ 16384 ⌝ }
 {
     let numbers = refusal_numbers(number, line);
-    linewrite::put_line(b"refused", &numbers, out)
+    text_format::put_line(b"refused", &numbers, out)
 }
 
 // What is printed for a text, at the front of the buffer.
@@ -39,7 +39,7 @@ fn answer(text: &[u8], out: &mut [u8]) -> usize
     ensures written { λ r. ⌜ Wrote (prints (now (text .entry))) (now (out .entry)) (now (out .exit)) r ⌝ }
     ensures short { λ r. ⌜ r ≤ 16384 ⌝ }
 {
-    match job::run(text, &mut *out) {
+    match job_call::run(text, &mut *out) {
         JobAnswer::Listed(length) => length,
         JobAnswer::Refused(number) => put_refusal(number, 0, out),
         JobAnswer::Broken(line) => put_refusal(17, line as u32, out),

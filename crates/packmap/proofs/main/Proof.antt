@@ -31,7 +31,8 @@ array-share-prefix-out c = search needs
 
 slice-aggregate-write-all : tie.Need-slice-aggregate-write-all
 slice-aggregate-write-all c =
-    let a = c .before .before .answer in sym (length-take-le _ (a .last .1 .0) (omega (arith, a .ensures .1, a .kept .1 .0, length-replicate {A = ℕ} 16384 0)))
+    let a = c .before .before .answer in sym (length-take-le _ (a .last .1 .0)
+    (omega (arith, a .ensures .1, a .kept .1 .0, length-replicate {A = ℕ} 16384 0)))
 
 write-all-requires : tie.Need-write-all-requires
 write-all-requires c κs = search needs

@@ -16,14 +16,20 @@ slice-aggregate-put-line-2 c = search needs
 
 put-line-requires : tie.Need-put-line-requires
 put-line-requires c κs =
-    let start = c .before .before .before .before .before in refusal-room (start .args .number) (start .args .line) (c .before .before .before .refusal-numbers .result) (c .before .before .before .refusal-numbers .ensures) (omega (arith, start .fits .number)) (omega (arith, start .fits .line)) (start .args .out .now) (start .pre)
+    let start = c .before .before .before .before .before in
+    refusal-room (start .args .number) (start .args .line) (c .before .before .before .refusal-numbers .result)
+    (c .before .before .before .refusal-numbers .ensures) (omega (arith, start .fits .number)) (omega (arith, start .fits .line)) (start .args .out .now)
+    (start .pre)
 
 same-length : tie.Need-same-length
 same-length c = search needs
 
 returns : tie.Need-returns
 returns c =
-    let start = c .before .before .before .before .before .before .before .before in refusal-wrote (start .args .number) (start .args .line) (c .before .before .before .before .before .before .refusal-numbers .result) (c .before .before .before .before .before .before .refusal-numbers .ensures) (omega (arith, start .fits .number)) (omega (arith, start .fits .line)) (start .args .out .now) (c .before .before .put-line .last .1 .1 .0) (c .before .before .put-line .result) (c .before .before .put-line .ensures)
+    let start = c .before .before .before .before .before .before .before .before in
+    refusal-wrote (start .args .number) (start .args .line) (c .before .before .before .before .before .before .refusal-numbers .result)
+    (c .before .before .before .before .before .before .refusal-numbers .ensures) (omega (arith, start .fits .number)) (omega (arith, start .fits .line))
+    (start .args .out .now) (c .before .before .put-line .last .1 .1 .0) (c .before .before .put-line .result) (c .before .before .put-line .ensures)
 
 pub put-refusal-spec : {M : Type 1} → statement M
 put-refusal-spec =

@@ -1,0 +1,61 @@
+-- Document 01, "Drawn points": scales, shares, and points snapped to coordinates. Definitions only.
+use Prim.Native.Nat.{ℕ, zero, suc, _+_, _*_, _/_, _%_, _^_}
+use mathlib.Core.Bool.{Bool, true, false, _&&_, _||_, cond}
+use mathlib.Core.List.{List, [], _∷_}
+use lib.Dec.{leb, ltb, eqb}
+use lib.IntN.{ℤ, pos, negℤ, _-ℤ_}
+use lib.Ieee.{Float, nan, inf, fin, up, down}
+use Rattle.definitions.specs.Answers.{Answer, done, refused, numbered, shareOutside}
+
+-- what scale 0 stands for
+abbrev pub defaultScale : ℕ
+defaultScale = 16
+
+unfoldable pub effectiveScale : ℕ → ℕ
+effectiveScale zero = defaultScale
+effectiveScale (suc r) = suc r
+
+-- a scale is 0 or runs from 4 to 24
+unfoldable pub scaleAllowed : ℕ → Bool
+scaleAllowed r = eqb r 0 || (leb 4 r && leb r 24)
+
+-- The whole number k with k ≤ ± a / b < k + 1, negative where the Bool is true: a fraction is cut off, and below 0 one more is taken off.
+unfoldable pub floor : Bool → ℕ → ℕ → ℤ
+floor false a b = pos (a / b)
+floor true a b = negℤ (pos (a / b + cond (eqb (a % b) 0) 0 1))
+
+-- what becomes of a share
+pub data Snap : Type 0 where
+  whole : ℤ → Snap
+  notFinite : Snap
+  beyond : Float → Snap
+
+-- A share at scale r. A finite f64 is the number ± m * 2 ^ e, that is ± m * up e / down e. A share outside -2 to 2 is refused.
+unfoldable pub snap : ℕ → Float → Snap
+unfolding effectiveScale floor
+snap r nan = notFinite
+snap r (inf s) = notFinite
+snap r (fin s m e) =
+    cond (ltb (2 * down e) (m * up e)) (beyond (fin s m e)) (whole (floor s (m * up e * 2 ^ effectiveScale r) (down e)))
+
+-- Shares in order, two to a point, the share x of v0 before the share y of v1: the coordinates (kx, ky, 2 ^ r - kx - ky) of each point,
+-- or the refusal of the first share that is refused.
+unfoldable pub snapAll : ℕ → List Float → Answer (List ℤ)
+unfolding snap effectiveScale
+snapAll r [] = done []
+snapAll r (x ∷ []) = done []
+snapAll r (x ∷ y ∷ shares) =
+    elim (snap r x) [
+      | notFinite ↦ refused (numbered 15)
+      | beyond share ↦ refused (shareOutside share)
+      | whole kx ↦
+          elim (snap r y) [
+            | notFinite ↦ refused (numbered 15)
+            | beyond share ↦ refused (shareOutside share)
+            | whole ky ↦
+                elim (snapAll r shares) [
+                  | refused why ↦ refused why
+                  | done bs ↦ done (kx ∷ ky ∷ (pos (2 ^ effectiveScale r) -ℤ kx -ℤ ky) ∷ bs)
+                ]
+          ]
+    ]

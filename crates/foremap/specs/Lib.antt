@@ -1,2 +1,0 @@
--- One turn of each loop of the forward map, in the shape of the code.
-pub mod Loops

@@ -1,0 +1,127 @@
+// The public calls for callers in other languages, for tests and benchmarks. A slice is a pointer and a length. Each answers the number of its refusal, or 0.
+// The header `hashcliff.h` in this crate's folder declares them for C.
+ghost use mathlib.Core.Path.{_≡_};
+ghost use Rattle.definitions.specs.Refusals.{checkCall, labelsCall, forwardCall, backwardCall, repairCall, snapCall};
+ghost use Rattle.hashcliff.specs.Numbers.{numberOf, shareOf, repairNumber, countOf};
+use labels_call::LabelsAnswer;
+use maps_call::MapAnswer;
+use mesh_check::MeshAnswer;
+use repair_call::RepairAnswer;
+use snap_call::SnapAnswer;
+
+#[no_mangle]
+pub extern "C" fn mesh_check_c(n: usize, triangles: &[u16], scratch: &mut [i64]) -> u64
+    ensures answer { λ r. ⌜ r ≡ numberOf (checkCall n (now (triangles .entry)) (now (scratch .entry)) .answer) ⌝ }
+    ensures scratch { λ r. ⌜ now (scratch .exit) ≡ checkCall n (now (triangles .entry)) (now (scratch .entry)) .scratch ⌝ }
+{
+    match mesh_check::check(n, triangles, scratch) {
+        MeshAnswer::Accepted(_) => 0,
+        MeshAnswer::Refused(number) => number as u64,
+    }
+}
+
+#[no_mangle]
+pub extern "C" fn labels_c(
+    n: usize,
+    triangles: &[u16],
+    labels: &mut [u8],
+    scratch: &mut [i64],
+) -> u64
+    ensures answer { λ r. ⌜ r ≡ numberOf (labelsCall n (now (triangles .entry)) (now (labels .entry)) (now (scratch .entry)) .answer) ⌝ }
+    ensures labels { λ r. ⌜ now (labels .exit) ≡ labelsCall n (now (triangles .entry)) (now (labels .entry)) (now (scratch .entry)) .labels ⌝ }
+    ensures scratch { λ r. ⌜ now (scratch .exit) ≡ labelsCall n (now (triangles .entry)) (now (labels .entry)) (now (scratch .entry)) .scratch ⌝ }
+{
+    match labels_call::labels(n, triangles, labels, scratch) {
+        LabelsAnswer::Written => 0,
+        LabelsAnswer::Refused(number) => number as u64,
+    }
+}
+
+#[no_mangle]
+pub extern "C" fn forward_c(
+    n: usize,
+    triangles: &[u16],
+    weights: &[i64],
+    coordinates: &mut [i64],
+    scratch: &mut [i64],
+) -> u64
+    ensures answer { λ r. ⌜ r ≡ numberOf (forwardCall n (now (triangles .entry)) (now (weights .entry)) (now (coordinates .entry)) (now (scratch .entry)) .answer) ⌝ }
+    ensures coordinates { λ r. ⌜ now (coordinates .exit) ≡ forwardCall n (now (triangles .entry)) (now (weights .entry)) (now (coordinates .entry)) (now (scratch .entry)) .coordinates ⌝ }
+    ensures scratch { λ r. ⌜ now (scratch .exit) ≡ forwardCall n (now (triangles .entry)) (now (weights .entry)) (now (coordinates .entry)) (now (scratch .entry)) .scratch ⌝ }
+{
+    match maps_call::forward(n, triangles, weights, coordinates, scratch) {
+        MapAnswer::Written => 0,
+        MapAnswer::Refused(number) => number as u64,
+    }
+}
+
+#[no_mangle]
+pub extern "C" fn backward_c(
+    n: usize,
+    triangles: &[u16],
+    coordinates: &[i64],
+    weights: &mut [i64],
+    scratch: &mut [i64],
+) -> u64
+    ensures answer { λ r. ⌜ r ≡ numberOf (backwardCall n (now (triangles .entry)) (now (coordinates .entry)) (now (weights .entry)) (now (scratch .entry)) .answer) ⌝ }
+    ensures weights { λ r. ⌜ now (weights .exit) ≡ backwardCall n (now (triangles .entry)) (now (coordinates .entry)) (now (weights .entry)) (now (scratch .entry)) .weights ⌝ }
+    ensures scratch { λ r. ⌜ now (scratch .exit) ≡ backwardCall n (now (triangles .entry)) (now (coordinates .entry)) (now (weights .entry)) (now (scratch .entry)) .scratch ⌝ }
+{
+    match maps_call::backward(n, triangles, coordinates, weights, scratch) {
+        MapAnswer::Written => 0,
+        MapAnswer::Refused(number) => number as u64,
+    }
+}
+
+// With 0 and 13 the count of raises is left behind `count`, which else keeps what it held.
+#[no_mangle]
+pub extern "C" fn repair_c(
+    n: usize,
+    triangles: &[u16],
+    weights: &mut [i64],
+    coordinates: &mut [i64],
+    scratch: &mut [i64],
+    count: &mut u64,
+) -> u64
+    ensures answer { λ r. ⌜ r ≡ repairNumber (repairCall n (now (triangles .entry)) (now (weights .entry)) (now (coordinates .entry)) (now (scratch .entry)) .answer) ⌝ }
+    ensures count { λ r. ⌜ now (count .exit) ≡ countOf (now (count .entry))
+        (repairCall n (now (triangles .entry)) (now (weights .entry)) (now (coordinates .entry)) (now (scratch .entry)) .answer) ⌝ }
+    ensures weights { λ r. ⌜ now (weights .exit) ≡ repairCall n (now (triangles .entry)) (now (weights .entry)) (now (coordinates .entry)) (now (scratch .entry)) .weights ⌝ }
+    ensures coordinates { λ r. ⌜ now (coordinates .exit) ≡ repairCall n (now (triangles .entry)) (now (weights .entry)) (now (coordinates .entry)) (now (scratch .entry)) .coordinates ⌝ }
+    ensures scratch { λ r. ⌜ now (scratch .exit) ≡ repairCall n (now (triangles .entry)) (now (weights .entry)) (now (coordinates .entry)) (now (scratch .entry)) .scratch ⌝ }
+{
+    match repair_call::repair(n, triangles, weights, coordinates, scratch) {
+        RepairAnswer::Repaired(raises) => {
+            *count = raises as u64;
+            0
+        }
+        RepairAnswer::Refused(number) => number as u64,
+        RepairAnswer::Stopped(raises) => {
+            *count = raises as u64;
+            13
+        }
+    }
+}
+
+// With 16 the share is left behind `outside`, which else keeps what it held.
+#[no_mangle]
+pub extern "C" fn snap_points_c(
+    n: usize,
+    shares: &[f64],
+    scale: u32,
+    coordinates: &mut [i64],
+    outside: &mut f64,
+) -> u64
+    ensures answer { λ r. ⌜ r ≡ numberOf (snapCall n (now (shares .entry)) scale (now (coordinates .entry)) .answer) ⌝ }
+    ensures coordinates { λ r. ⌜ now (coordinates .exit) ≡ snapCall n (now (shares .entry)) scale (now (coordinates .entry)) .coordinates ⌝ }
+    ensures outside { λ r. ⌜ now (outside .exit) ≡ shareOf (now (outside .entry)) (snapCall n (now (shares .entry)) scale (now (coordinates .entry)) .answer) ⌝ }
+{
+    match snap_call::snap_points(n, shares, scale, coordinates) {
+        SnapAnswer::Done => 0,
+        SnapAnswer::Refused(number) => number as u64,
+        SnapAnswer::Outside(share) => {
+            *outside = share;
+            16
+        }
+    }
+}

@@ -1,2 +1,0 @@
--- How the code's searches meet the tests of a raise.
-pub mod Searches

@@ -1,4 +1,0 @@
--- What the labels call answers in document 01's numbers, and what it leaves in scratch and in the labels.
-pub mod Told
-pub mod Labelling
-pub mod Call

@@ -1,0 +1,21 @@
+-- `labels_call::refusal` meets its contract. Assumes nothing.
+use mathlib.Core.Path.{sym, ap}
+use Rattle.mesh_check.specs.Answer.{meshToAnswer}
+use borrow.Author.Needs.{needs}
+use Rattle.labels_call.proofs.refusal.Statement.{statement}
+use Rattle.labels_call.proofs.refusal.Tie as tie
+
+enum-told : tie.Need-enum-told
+enum-told c = search needs
+
+enum-known-answer : tie.Need-enum-known-answer
+enum-known-answer c = search needs
+
+returns : tie.Need-returns
+returns c = search needs
+
+returns-2 : tie.Need-returns-2
+returns-2 c = sym (ap meshToAnswer (c .before .answer .given .1))
+
+pub refusal-spec : {M : Type 1} → statement M
+refusal-spec = tie.close (tie.spec enum-told enum-known-answer returns returns-2)

@@ -1,0 +1,68 @@
+-- `labels_call::write_labels` meets its contract: the first labels are written. Assumes nothing.
+use native.Mathlib.Omega.{arith}
+use Prim.Native.Nat.{_-_}
+use lib.ListN.{length}
+use Rattle.scratch_tables.specs.Tables.{tablesOf}
+use Rattle.labels_call.specs.Labelling.{Writing, writing-none, writing-more}
+use borrow.Author.Needs.{needs}
+use Rattle.labels_call.proofs.write_labels.Statement.{statement}
+use Rattle.labels_call.proofs.write_labels.Tie as tie
+
+abbrev Inv-loop : tie.InvT-loop
+Inv-loop s labels₀ i₀ labels i = Writing (tablesOf s .op) labels₀ labels i
+
+abbrev μ-loop : tie.MeasureT-loop
+μ-loop s labels₀ i₀ labels i = length labels₀ - i
+
+loop-holds : tie.Need-loop-holds Inv-loop μ-loop
+loop-holds c = writing-none _ (c .before .args .labels .now)
+
+add-label-of : tie.Need-add-label-of Inv-loop μ-loop
+add-label-of c = omega (arith, c .loop-test .taken, c .before .loop .inv .long, c .before .before .before .good .1 .0 .1)
+
+label-of-requires : tie.Need-label-of-requires Inv-loop μ-loop
+label-of-requires c κs = search needs
+
+cast-labels : tie.Need-cast-labels Inv-loop μ-loop
+cast-labels c = omega (
+  arith,
+  c .label-of .ensures,
+  c .before .before .before .before .pre (c .before .before .loop .i)
+      (omega (arith, c .before .loop-test .taken, c .before .before .loop .inv .long)),
+)
+
+slice-write-labels : tie.Need-slice-write-labels Inv-loop μ-loop
+slice-write-labels c = search needs
+
+add-i : tie.Need-add-i Inv-loop μ-loop
+add-i c = search needs
+
+loop-less : tie.Need-loop-less Inv-loop μ-loop
+loop-less c = omega (arith, c .before .loop-test .taken, c .before .before .loop .inv .long)
+
+loop-again : tie.Need-loop-again Inv-loop μ-loop
+loop-again c = writing-more _ (c .before .before .before .before .args .labels .now) (c .before .before .loop .labels) (c .before .before .loop .i)
+    (c .label-of .result) (c .before .loop-test .taken) (c .label-of .ensures) (c .before .before .loop .inv)
+
+same-length : tie.Need-same-length Inv-loop μ-loop
+same-length c = c .before .loop .inv .long
+
+returns : tie.Need-returns Inv-loop μ-loop
+returns c k h = c .before .loop .inv .done k (omega (arith, c .loop-test .left))
+
+pub write-labels-spec : {M : Type 1} → statement M
+write-labels-spec =
+    tie.close
+    (tie.spec
+    Inv-loop
+    μ-loop
+    loop-holds
+    add-label-of
+    label-of-requires
+    cast-labels
+    slice-write-labels
+    add-i
+    loop-less
+    loop-again
+    same-length
+    returns)

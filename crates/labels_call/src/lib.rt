@@ -1,0 +1,90 @@
+// The labels call: on an accepted mesh the peeling labels the corners of the inner triangles. The work is linear in n, but for the search for the
+// smallest vertex that can leave, which passes over whole groups and blocks of vertices. Of scratch it uses the ten words a vertex that the mesh
+// check uses.
+use mesh_check::MeshAnswer;
+use mesh_check::examine;
+use scratch_tables::clear;
+ghost use mathlib.Core.Path.{_≡_};
+ghost use Prim.Native.Nat.{ℕ, _+_, _<_};
+ghost use lib.ListN.{length, getD};
+ghost use Rattle.definitions.specs.Refusals.{labelsCall};
+ghost use Rattle.scratch_tables.specs.Tables.{tablesOf};
+ghost use Rattle.labels_tables.specs.LabelledTables.{labelIn};
+ghost use Rattle.mesh_check.specs.Answer.{meshToAnswer};
+ghost use Rattle.mesh_check.specs.Stages.{Lent};
+ghost use Rattle.labels_call.specs.Answer.{labelsToAnswer};
+ghost use Rattle.labels_call.specs.Labelling.{Labelling};
+
+// the labels are written; or refused, with the number of the row
+pub enum LabelsAnswer {
+    Written,
+    Refused(u32),
+}
+
+const MOST_VERTICES: usize = 4096;
+
+// Rows 3 to 8 and the labels stage, for every call that needs labels. Where the mesh is accepted scratch holds the labels and the trace of the peeling.
+// Where it is refused nothing is said of scratch: the call clears it.
+pub fn label_mesh(n: usize, triangles: &[u16], s: &mut [i64]) -> MeshAnswer
+    requires { ⌜ Lent n (now triangles) (length (now s)) ⌝ }
+    ensures { λ r. ⌜ Labelling n (now (triangles .entry)) (now (s .exit)) r ⌝ }
+{
+    let examined = examine(n, triangles, s);
+    let MeshAnswer::Accepted(darts) = examined else {
+        return examined;
+    };
+    labels_peel::peel(triangles, s, n);
+    MeshAnswer::Accepted(darts)
+}
+
+// the labels from corner 3 on, which is the first of an inner triangle
+fn write_labels(s: &[i64], labels: &mut [u8])
+    requires { ⌜ ((k : ℕ) → k < length (now labels) → labelIn (tablesOf (now s) .op) (k + 3) < 256) ⌝ }
+    ensures { λ r. ⌜ ((k : ℕ) → k < length (now (labels .exit)) → getD (now (labels .exit)) k 0 ≡ labelIn (tablesOf (now (s .entry)) .op) (k + 3)) ⌝ }
+{
+    let mut i = 0;
+    while i < labels.len() {
+        labels[i] = labels_tables::label_of(s, i + 3) as u8;
+        i += 1;
+    }
+}
+
+fn refusal(answer: MeshAnswer) -> LabelsAnswer
+    ensures { λ r. ⌜ labelsToAnswer r ≡ meshToAnswer answer ⌝ }
+{
+    match answer {
+        MeshAnswer::Accepted(_) => LabelsAnswer::Written,
+        MeshAnswer::Refused(number) => LabelsAnswer::Refused(number),
+    }
+}
+
+// The public call. Scratch is as lent after 1 and 2, and holds zeros after every other answer.
+pub fn labels(n: usize, triangles: &[u16], labels: &mut [u8], scratch: &mut [i64]) -> LabelsAnswer
+    ensures answer { λ r. ⌜ labelsToAnswer r ≡ labelsCall n (now (triangles .entry)) (now (labels .entry)) (now (scratch .entry)) .answer ⌝ }
+    ensures labels { λ r. ⌜ now (labels .exit) ≡ labelsCall n (now (triangles .entry)) (now (labels .entry)) (now (scratch .entry)) .labels ⌝ }
+    ensures scratch { λ r. ⌜ now (scratch .exit) ≡ labelsCall n (now (triangles .entry)) (now (labels .entry)) (now (scratch .entry)) .scratch ⌝ }
+{
+    if n < 3 {
+        return LabelsAnswer::Refused(1);
+    }
+    if n > MOST_VERTICES {
+        return LabelsAnswer::Refused(1);
+    }
+    if triangles.len() != 3 * (2 * n - 4) {
+        return LabelsAnswer::Refused(2);
+    }
+    if scratch.len() != 24 * n {
+        return LabelsAnswer::Refused(2);
+    }
+    if labels.len() != 3 * (2 * n - 5) {
+        return LabelsAnswer::Refused(2);
+    }
+    let examined = label_mesh(n, triangles, scratch);
+    let MeshAnswer::Accepted(_) = examined else {
+        clear(scratch);
+        return refusal(examined);
+    };
+    write_labels(scratch, labels);
+    clear(scratch);
+    LabelsAnswer::Written
+}

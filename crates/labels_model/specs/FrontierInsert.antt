@@ -1,0 +1,297 @@
+-- A vertex comes onto the frontier: going once round it, the work counts its frontier neighbours and counts it as a neighbour of theirs. Assumes nothing.
+use Prim.Native.Nat.{ℕ, zero, suc, _+_, _*_, _/_, _≤_, _<_}
+use mathlib.Core.Path.{_≡_, refl, sym, ap, _∙_}
+use mathlib.Core.Logic.{_≢_, inl, inr}
+use mathlib.Core.Bool.{Bool, true, false, _&&_, _||_, cond}
+use mathlib.Core.List.{List, [], _∷_, List·Memᴰ·head, List·Memᴰ·tail}
+use native.Mathlib.Omega.{arith}
+use native.Mathlib.Decide.{ℕ-discrete}
+use lib.Dec.{ltb, eqb}
+use lib.ListN.{length}
+use borrow.Author.Tests.{lt-ltb, le-ltb, eq-eqb, ne-eqb}
+use Rattle.definitions.specs.Lists.{filter, iterate}
+use Rattle.definitions.specs.Mesh.{next, prev, org, tip, darts, opp, rot, rotations, outgoing}
+use Rattle.laws.specs.Lists.{_∈_, tested, clash, filter-in, in-filter, length-filter, length-upto}
+use Rattle.laws.specs.Counting.{distinct-within, distinct-filter}
+use Rattle.theory_sphere.specs.Sphere.{Sphere}
+use Rattle.theory_sphere.specs.Darts.{next-below, prev-below}
+use Rattle.theory_sphere.specs.Rows.{outgoing-in, in-outgoing, distinct-outgoing}
+use Rattle.theory_sphere.specs.Rotations.{org-rot, tip-rot}
+use Rattle.theory_sphere.specs.Rings.{length-rotations}
+use Rattle.theory_sphere.specs.Accept.{sphere-period, sphere-rotations-all, sphere-rotations-distinct, sphere-rotations-in}
+use Rattle.scratch_tables.specs.Tables.{Tables}
+use Rattle.labels_model.specs.Model.{Counted, rotated, frontierDegree, setDegree, incrementDegree, countNeighbour, countNeighbours, enterFrontier}
+use Rattle.labels_model.specs.Counters.{Beside, beside-same, beside-then, Opposed, opposed-beside, put-beside, put-same, put-other}
+use Rattle.labels_model.specs.NeighbourCounts.{tip-is, met, joins, met-add, met-most, joins-none, joins-both}
+
+-- ---- what a table of marks says
+
+-- The marks of the n vertices: 0 for one that is not in F, one more than the number of darts that lead from it to F for one that is.
+abbrev pub Marked : (n : ℕ) (ts : List ℕ) → (ℕ → Bool) → Tables → Type 0
+Marked n ts F t = (w : ℕ) → w < n → frontierDegree t w ≡ cond (F w) (suc (met ts F w)) 0
+
+-- ---- one more
+
+more-here : (w : ℕ) (t : Tables) → frontierDegree t w < 65535 → frontierDegree (incrementDegree w t) w ≡ frontierDegree t w + 1
+unfolding incrementDegree
+more-here w t h = rw (lt-ltb (frontierDegree t w) 65535 h) (put-same w (frontierDegree t w + 1) t (omega arith))
+
+more-else : (w x : ℕ) (t : Tables) → x ≢ w → frontierDegree (incrementDegree w t) x ≡ frontierDegree t x
+unfolding incrementDegree
+more-else w x t h = elim (tested (ltb (frontierDegree t w) 65535)) [ inl e ↦ rw e (put-other w (frontierDegree t w + 1) t x h) | inr e ↦ rw e ]
+
+more-beside : (w : ℕ) (t : Tables) → Beside t (incrementDegree w t)
+unfolding incrementDegree
+more-beside w t = elim (tested (ltb (frontierDegree t w) 65535)) [ inl e ↦ rw e (put-beside w (frontierDegree t w + 1) t) | inr e ↦ rw e (beside-same t) ]
+
+pub keep-count : (p : ℕ → Bool) (x : ℕ) (xs : List ℕ) → length (filter p (x ∷ xs)) ≡ cond (p x) 1 0 + length (filter p xs)
+unfolding filter
+keep-count p x xs = elim (tested (p x)) [ inl e ↦ rw e (omega arith) | inr e ↦ rw e (omega arith) ]
+
+meet-beside : (w c : ℕ) (t : Tables) → Beside t (countNeighbour w c t .tables)
+unfolding countNeighbour
+meet-beside w c t = elim (tested (ltb 0 (frontierDegree t w))) [ inl e ↦ rw e (more-beside w t) | inr e ↦ rw e (beside-same t) ]
+
+module _ (ts : List ℕ) where
+  round-beside : (first k d c : ℕ) (t : Tables) → Beside t (countNeighbours ts first k d c t .tables)
+  unfolding countNeighbours
+  round-beside first zero d c t = beside-same t
+  round-beside first (suc k) d c t =
+      let m = countNeighbour (org ts (prev d)) c t in
+      let b = meet-beside (org ts (prev d)) c t in
+      let r = round-beside first k (rotated t d) (m .count) (m .tables) in
+      elim (tested (eqb (rotated t d) first)) [ inl e ↦ rw e b | inr e ↦ rw e (beside-then b r) ]
+
+  pub enter-beside : (u d : ℕ) (t : Tables) → Beside t (enterFrontier ts u d t)
+  unfolding enterFrontier
+  enter-beside u d t =
+      let r = countNeighbours ts d (length ts) d 1 t in
+      beside-then (round-beside d (length ts) d 1 t) (put-beside u (r .count) (r .tables))
+
+  -- ---- the walk as a list
+
+  meets : List ℕ → ℕ → Tables → Counted
+  meets [] c t = record { count = c; tables = t }
+  meets (d ∷ ds) c t =
+      let r = countNeighbour (tip ts d) c t in
+      meets ds (r .count) (r .tables)
+
+  -- just the vertices of F have a mark
+  record Lit (n : ℕ) (F : ℕ → Bool) (t : Tables) : Type 0 where
+    light : (w : ℕ) → w < n → F w ≡ true → 0 < frontierDegree t w
+    dark : (w : ℕ) → w < n → F w ≡ false → frontierDegree t w ≡ 0
+
+  module _ (n : ℕ) (F : ℕ → Bool) where
+    -- one dart
+    module _ (t : Tables) (L : Lit n F t) (d c : ℕ) (xn : tip ts d < n) (small : (w : ℕ) → w < n → frontierDegree t w < 65535) where
+      abbrev r : Counted
+      r = countNeighbour (tip ts d) c t
+
+      on : F (tip ts d) ≡ true → r ≡ record { count = c + 1; tables = incrementDegree (tip ts d) t }
+      unfolding countNeighbour
+      on e = rw (lt-ltb 0 (frontierDegree t (tip ts d)) (L .light (tip ts d) xn e))
+
+      off : F (tip ts d) ≡ false → r ≡ record { count = c; tables = t }
+      unfolding countNeighbour
+      off e = rw (le-ltb 0 (frontierDegree t (tip ts d)) (omega (arith, L .dark (tip ts d) xn e)))
+
+      meet-marks : (w : ℕ) → w < n → frontierDegree (r .tables) w ≡ frontierDegree t w + cond (F w && eqb (tip ts d) w) 1 0
+      meet-marks w wn =
+          elim (tested (F (tip ts d))) [
+            | inl e ↦
+                elim (ℕ-discrete (tip ts d) w) [
+                  | yes q ↦
+                      let f : F w ≡ true = ap F (sym q) ∙ e in
+                      rw (on e, f, eq-eqb (tip ts d) w q, q) (rw q at (more-here (tip ts d) t (small (tip ts d) xn)))
+                  | no q ↦
+                      let stay = more-else (tip ts d) w t (λ z. q (sym z)) in
+                      rw (on e, ne-eqb (tip ts d) w q) (elim (tested (F w)) [ inl f ↦ rw f (omega (arith, stay)) | inr f ↦ rw f (omega (arith, stay)) ])
+                ]
+            | inr e ↦
+                rw (off e) (elim (tested (F w)) [
+                  | inl f ↦ rw (f, ne-eqb (tip ts d) w (λ z. (let g : true ≡ false = sym f ∙ ap F (sym z) ∙ e in clash refl g))) (omega arith)
+                  | inr f ↦ rw f (omega arith)
+                ])
+          ]
+
+      meet-count : r .count ≡ c + cond (F (tip ts d)) 1 0
+      meet-count = elim (tested (F (tip ts d))) [ inl e ↦ rw (on e, e) | inr e ↦ rw (off e, e) (omega arith) ]
+
+      meet-lit : Lit n F (r .tables)
+      meet-lit =
+          record {
+            light = λ w wn f. omega (arith, meet-marks w wn, L .light w wn f);
+            dark = λ w wn f. meet-marks w wn ∙ rw f (omega (arith, L .dark w wn f));
+          }
+
+      meet-small : (w : ℕ) → w < n → frontierDegree (r .tables) w ≤ frontierDegree t w + 1
+      meet-small w wn =
+          omega (arith, meet-marks w wn, most (F w && eqb (tip ts d) w))
+        where
+          most : (b : Bool) → cond b 1 0 ≤ 1
+          most true = omega arith
+          most false = omega arith
+
+    -- the whole list
+    meets-marks : (ds : List ℕ) (c : ℕ) (t : Tables) → Lit n F t → ((d : ℕ) → d ∈ ds → tip ts d < n) →
+        ((w : ℕ) → w < n → frontierDegree t w + length ds ≤ 65535)
+        → (meets ds c t .count ≡ c + length (filter (λ d. F (tip ts d)) ds))
+        × ((w : ℕ) → w < n → frontierDegree (meets ds c t .tables) w
+        ≡ frontierDegree t w + cond (F w) (length (filter (λ d. eqb (tip ts d) w) ds)) 0)
+    unfolding meets filter
+    meets-marks [] c t L h small = (omega arith, λ w wn. elim (tested (F w)) [ inl f ↦ rw f (omega arith) | inr f ↦ rw f (omega arith) ])
+    meets-marks (d ∷ ds) c t L h small =
+        let x = h d (List·Memᴰ·head refl) in
+        let fits : (w : ℕ) → w < n → frontierDegree t w < 65535 = λ w wn. omega (arith, small w wn) in
+        let r = countNeighbour (tip ts d) c t in
+        let ih = meets-marks ds (r .count) (r .tables) (meet-lit t L d c x fits) (λ e m. h e (List·Memᴰ·tail m))
+        (λ w wn. omega (arith, small w wn, meet-small t L d c x fits w wn)) in (
+          omega (arith, ih .0, meet-count t L d c x fits, keep-count (λ d. F (tip ts d)) d ds),
+          λ w wn.
+              let step = meet-marks t L d c x fits w wn in
+              let rest = ih .1 w wn in
+              let count = keep-count (λ d. eqb (tip ts d) w) d ds in
+              elim (tested (F w)) [
+                | inl f ↦ rw f (omega (arith, rw f at rest, rw f at step, count))
+                | inr f ↦ rw f (omega (arith, rw f at rest, rw f at step))
+              ],
+        )
+
+module _ (n : ℕ) (ts : List ℕ) (s : Sphere n (length ts / 3) (org ts) (opp ts)) (len : 3 * (length ts / 3) ≡ length ts) where
+  abbrev T : ℕ
+  T = length ts / 3
+
+  turned-is : (t : Tables) → Opposed ts t → (d : ℕ) → d < 3 * T → rotated t d ≡ rot ts d
+  unfolding rotated rot
+  turned-is t o d h = o (prev d) (omega (arith, prev-below T d h))
+
+  rot-in : (d : ℕ) → d < 3 * T → rot ts d < 3 * T
+  unfolding rot
+  rot-in d h = s .dart (prev d) (prev-below T d h)
+
+  -- one rotation leads to the neighbour from which the dart before comes
+  tip-turned : (d : ℕ) → d < 3 * T → org ts (prev d) ≡ tip ts (rot ts d)
+  unfolding rot tip
+  tip-turned d h = sym (tip-rot s d h)
+
+  -- the walk meets the darts that rotations lead to, up to the first
+  round-meets : (first j k d c : ℕ) (t : Tables) → Opposed ts t → d < 3 * T → 0 < j → j ≤ k → iterate (rot ts) j d ≡ first →
+      ((i : ℕ) → 0 < i → i < j → iterate (rot ts) i d ≢ first)
+      → countNeighbours ts first k d c t ≡ meets ts (rotations ts j (rot ts d)) c t
+  unfolding countNeighbours meets rotations iterate
+  round-meets first zero k d c t o h p q e f = absurd (omega arith)
+  round-meets first (suc j) zero d c t o h p q e f = absurd (omega arith)
+  round-meets first (suc zero) (suc k) d c t o h p q e f = rw (eq-eqb (rotated t d) first (turned-is t o d h ∙ e), tip-turned d h)
+  round-meets first (suc (suc j)) (suc k) d c t o h p q e f =
+      let m = turned-is t o d h in
+      let r = countNeighbour (tip ts (rot ts d)) c t in
+      rw (ne-eqb (rotated t d) first (λ z. f 1 (omega arith) (omega arith) (sym m ∙ z)), m, tip-turned d h)
+      (round-meets first (suc j) k (rot ts d) (r .count) (r .tables) (opposed-beside ts (meet-beside (tip ts (rot ts d)) c t) o) (rot-in d h) (omega arith)
+      (omega arith) e (λ i a b. f (suc i) (omega arith) (omega arith)))
+
+  -- so many rotations meet as many darts with a property as there are
+  rotations-count : (p : ℕ → Bool) (d : ℕ) → d < 3 * T → length (filter p (rotations ts (length (outgoing ts (org ts d))) d))
+      ≡ length (filter p (outgoing ts (org ts d)))
+  rotations-count p d h =
+      let whole = sym len in
+      let k = length (outgoing ts (org ts d)) in
+      let up = distinct-within (distinct-filter p (sphere-rotations-distinct n ts s whole d h)) (filter p (outgoing ts (org ts d))) (λ x m.
+      let r = filter-in p (rotations ts k d) m in
+      let i = sphere-rotations-in n ts s whole d h k (r .0) in
+      in-filter p (in-outgoing ts (org ts d) x (omega (arith, i .0)) (i .1)) (r .1)) in
+      let down = distinct-within (distinct-filter p (distinct-outgoing ts (org ts d))) (filter p (rotations ts k d)) (λ x m.
+      let r = filter-in p (outgoing ts (org ts d)) m in
+      let l = outgoing-in ts (org ts d) (r .0) in
+      in-filter p (sphere-rotations-all n ts s whole d h x (omega (arith, l .0)) (l .1)) (r .1)) in
+      omega (arith, up, down)
+
+  outgoing-few : (w : ℕ) → length (outgoing ts w) ≤ length ts
+  unfolding outgoing darts
+  outgoing-few w = omega (arith, length-filter (λ d. eqb (org ts d) w) (darts ts), length-upto (length ts))
+
+  module _ (F : ℕ → Bool) (d : ℕ) (t : Tables) (o : Opposed ts t) (M : Marked n ts F t) (h : d < 3 * T) (new : F (org ts d) ≡ false)
+      (few : length ts < 32000) where
+    abbrev u : ℕ
+    u = org ts d
+
+    abbrev F′ : ℕ → Bool
+    F′ w = eqb w u || F w
+
+    -- the darts of u, from the one on that one rotation from d leads to
+    abbrev d₁ : ℕ
+    d₁ = rot ts d
+
+    d₁-in : d₁ < 3 * T
+    d₁-in = rot-in d h
+
+    d₁-from : org ts d₁ ≡ u
+    unfolding rot
+    d₁-from = org-rot s d h
+
+    abbrev ds : List ℕ
+    ds = rotations ts (length (outgoing ts u)) d₁
+
+    un : u < n
+    un = s .vertex d h
+
+    lit : Lit ts n F t
+    lit =
+        record {
+          light = λ w wn f. omega (arith, rw f at (M w wn));
+          dark = λ w wn f. rw f at (M w wn);
+        }
+
+    tips : (x : ℕ) → x ∈ ds → tip ts x < n
+    unfolding tip
+    tips x m = let i = sphere-rotations-in n ts s (sym len) d₁ d₁-in (length (outgoing ts u)) m in s .vertex (next x) (next-below T x (i .0))
+
+    small : (w : ℕ) → w < n → frontierDegree t w + length ds ≤ 65535
+    small w wn =
+        let l = length-rotations ts (length (outgoing ts u)) d₁ in
+        let b = outgoing-few u in
+        let k = met-most ts F w in
+        elim (tested (F w)) [
+          | inl f ↦ omega (arith, rw f at (M w wn), l, b, k)
+          | inr f ↦ omega (arith, rw f at (M w wn), l, b)
+        ]
+
+    abbrev walk : Counted
+    walk = meets ts ds 1 t
+
+    entered : enterFrontier ts u d t ≡ setDegree u (walk .count) (walk .tables)
+    unfolding enterFrontier
+    entered =
+        let p = sphere-period n ts s (sym len) d h in
+        let e = round-meets d (length (outgoing ts u)) (length ts) d 1 t o h (p .some) (outgoing-few u) (p .back) (p .soonest) in
+        ap (λ (x : Counted). setDegree u (x .count) (x .tables)) e
+
+    -- the walk meets all darts of u
+    all-met : (p : ℕ → Bool) → length (filter p ds) ≡ length (filter p (outgoing ts u))
+    all-met p = rw d₁-from at (rotations-count p d₁ d₁-in)
+
+    self : joins ts u u ≡ 0
+    self = joins-none ts u u (λ x l e z. s .proper x (omega arith) (e ∙ sym z ∙ tip-is ts x))
+
+    own : walk .count ≡ suc (met ts F′ u)
+    unfolding met
+    own = omega (arith, meets-marks ts n F ds 1 t lit tips small .0, all-met (λ x. F (tip ts x)), met-add ts F u u new, self)
+
+    counted : (w : ℕ) → length (filter (λ x. eqb (tip ts x) w) ds) ≡ joins ts u w
+    unfolding joins met
+    counted w = all-met (λ x. eqb (tip ts x) w)
+
+    other : (w : ℕ) → w < n → frontierDegree (walk .tables) w ≡ cond (F w) (suc (met ts F′ w)) 0
+    other w wn =
+        let e = meets-marks ts n F ds 1 t lit tips small .1 w wn in
+        elim (tested (F w)) [
+          | inl f ↦ rw f (omega (arith, rw f at e, rw f at (M w wn), counted w, joins-both n ts s len w u, met-add ts F u w new))
+          | inr f ↦ rw f (omega (arith, rw f at e, rw f at (M w wn)))
+        ]
+
+    -- the marks with u in the set
+    pub enter-marks : Marked n ts F′ (enterFrontier ts u d t)
+    enter-marks w wn =
+        elim (ℕ-discrete w u) [
+          | yes q ↦ rw (q, entered, eq-eqb u u refl) (put-same u (walk .count) (walk .tables) (omega (arith, own, met-most ts F′ u)) ∙ own)
+          | no q ↦ rw (entered, ne-eqb w u q) (put-other u (walk .count) (walk .tables) w q ∙ other w wn)
+        ]

@@ -1,0 +1,15 @@
+-- The work of the peeling on the tables, and that it does what the peeling does.
+pub mod Model
+pub mod Counters
+pub mod MinSearch
+pub mod NeighbourCounts
+pub mod FrontierInsert
+pub mod FrontierRemove
+pub mod LabelTriangle
+pub mod LabelFan
+pub mod FrontierInvariant
+pub mod Step
+pub mod Choice
+pub mod Simulation
+pub mod Init
+pub mod Result

@@ -1,0 +1,17 @@
+-- `labels_peel::block_bound` meets its contract. Assumes nothing.
+use Rattle.labels_peel.specs.LoopLaws.{low-is, low-small}
+use borrow.Author.Needs.{needs}
+use Rattle.labels_peel.proofs.block_bound.Statement.{statement}
+use Rattle.labels_peel.proofs.block_bound.Tie as tie
+
+mul-get-mark : tie.Need-mul-get-mark
+mul-get-mark c = search needs
+
+get-mark-requires : tie.Need-get-mark-requires
+get-mark-requires c κs = search needs
+
+returns : tie.Need-returns
+returns c = (low-is _ (c .before .args .b) (c .get-mark .result) (c .get-mark .ensures .0), low-small (c .get-mark .result))
+
+pub block-bound-spec : {M : Type 1} → statement M
+block-bound-spec = tie.close (tie.spec mul-get-mark get-mark-requires returns)

@@ -1,0 +1,61 @@
+-- `labels_peel::clear_degrees` meets its contract: what is left to wipe comes to the whole. Assumes nothing.
+use native.Mathlib.Omega.{arith}
+use Prim.Native.Nat.{_-_}
+use mathlib.Core.Path.{_∙_}
+use Rattle.labels_peel.specs.LoopLaws.{holds-kept, below-holds, mark-room, wipe-more, wipe-over, Wiped, wiped-none}
+use Rattle.labels_peel.specs.LoopLaws.{holds-kept, below-holds, mark-room, wipe-more, wipe-over, Wiped}
+use Rattle.labels_peel.proofs.clear_degrees.Statement.{statement}
+use Rattle.labels_peel.proofs.clear_degrees.Tie as tie
+
+abbrev Inv-loop : tie.InvT-loop
+Inv-loop s₀ n v₀ s v = Wiped n s₀ s v
+
+abbrev μ-loop : tie.MeasureT-loop
+μ-loop s₀ n v₀ s v = n - v
+
+loop-holds : tie.Need-loop-holds Inv-loop μ-loop
+loop-holds c = wiped-none (c .args .n) (c .args .s .now)
+
+mul-set-mark : tie.Need-mul-set-mark Inv-loop μ-loop
+mul-set-mark c = omega (arith, c .before .loop-test .taken, c .before .before .before .pre .small)
+
+set-mark-requires : tie.Need-set-mark-requires Inv-loop μ-loop
+set-mark-requires c κs = (
+  mark-room (holds-kept (c .before .before .loop .inv .long)
+      (below-holds (c .before .before .loop .v) (c .before .before .before .pre) (c .before .loop-test .taken))),
+  omega arith,
+)
+
+add-v : tie.Need-add-v Inv-loop μ-loop
+add-v c = omega arith
+
+loop-less : tie.Need-loop-less Inv-loop μ-loop
+loop-less c = omega arith
+
+loop-again : tie.Need-loop-again Inv-loop μ-loop
+loop-again c = record {
+  long = c .before .set-mark .kept .0 ∙ c .before .before .before .before .loop .inv .long;
+  rest = wipe-more (c .before .before .before .before .before .args .n) (c .before .before .before .before .loop .v) _ _ _
+      (c .before .before .before .loop-test .taken) (c .before .set-mark .ensures) (c .before .before .before .before .loop .inv .rest);
+}
+
+same-length : tie.Need-same-length Inv-loop μ-loop
+same-length c = c .before .loop .inv .long
+
+returns : tie.Need-returns Inv-loop μ-loop
+returns c = wipe-over (c .before .before .args .n) (c .before .loop .v) _ _ (c .loop-test .left) (c .before .loop .inv .rest)
+
+pub clear-degrees-spec : {M : Type 1} → statement M
+clear-degrees-spec =
+    tie.close
+    (tie.spec
+    Inv-loop
+    μ-loop
+    loop-holds
+    mul-set-mark
+    set-mark-requires
+    add-v
+    loop-less
+    loop-again
+    same-length
+    returns)

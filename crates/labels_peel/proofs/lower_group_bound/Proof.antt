@@ -1,0 +1,37 @@
+-- `labels_peel::lower_group_bound` meets its contract. Assumes nothing.
+use native.Mathlib.Omega.{arith}
+use Prim.Native.Nat.{_/_}
+use Rattle.labels_peel.specs.LoopLaws.{less-holds, group-is}
+use borrow.Author.Needs.{needs}
+use Rattle.labels_peel.proofs.lower_group_bound.Statement.{statement}
+use Rattle.labels_peel.proofs.lower_group_bound.Tie as tie
+
+group-bound-requires : tie.Need-group-bound-requires
+group-bound-requires c κs = omega (arith, c .before .pre .small)
+
+smaller-requires : tie.Need-smaller-requires
+smaller-requires c κs = search needs
+
+set-group-bound-requires : tie.Need-set-group-bound-requires
+set-group-bound-requires c κs = (
+  less-holds (c .before .before .before .before .args .w / 256) (omega arith) (c .before .before .before .before .pre),
+  omega (arith, c .smaller .ensures),
+)
+
+same-length : tie.Need-same-length
+same-length c = search needs
+
+returns : tie.Need-returns
+returns c = group-is (c .before .before .before .before .before .before .args .w) (c .before .before .before .before .group-bound .result)
+    (c .before .before .smaller .result) _ _ (c .before .before .before .before .group-bound .ensures) (c .before .before .smaller .ensures)
+    (c .before .set-group-bound .ensures)
+
+pub lower-group-bound-spec : {M : Type 1} → statement M
+lower-group-bound-spec =
+    tie.close
+    (tie.spec
+    group-bound-requires
+    smaller-requires
+    set-group-bound-requires
+    same-length
+    returns)

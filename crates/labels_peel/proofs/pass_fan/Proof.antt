@@ -1,0 +1,112 @@
+-- `labels_peel::pass_fan` meets its contract: the rest of the fan comes to the whole of it. Assumes nothing.
+use native.Mathlib.Omega.{arith}
+use mathlib.Core.Path.{refl, _∙_}
+use Rattle.labels_peel.specs.LoopLaws.{Fanning, holds-kept, room-kept, org-holds, prev-small, fan-over, fan-more, fan-none}
+use borrow.Author.Needs.{needs}
+use Rattle.labels_peel.proofs.pass_fan.Statement.{statement}
+use Rattle.labels_peel.proofs.pass_fan.Tie as tie
+
+abbrev Inv-loop : tie.InvT-loop
+Inv-loop triangles s₀ right first g₀ k₀ s g k = Fanning triangles right first s₀ s k g
+
+abbrev μ-loop : tie.MeasureT-loop
+μ-loop triangles s₀ right first g₀ k₀ s g k = k
+
+loop-holds : tie.Need-loop-holds Inv-loop μ-loop
+loop-holds c = record { long = refl; dart = c .before .pre .1; rest = refl }
+
+prev-dart-requires : tie.Need-prev-dart-requires Inv-loop μ-loop
+prev-dart-requires c κs = omega (arith, c .before .loop .inv .dart)
+
+origin-requires : tie.Need-origin-requires Inv-loop μ-loop
+origin-requires c κs = search needs
+
+opposite-requires : tie.Need-opposite-requires Inv-loop μ-loop
+opposite-requires c κs = search needs
+
+pass-triangle-requires : tie.Need-pass-triangle-requires Inv-loop μ-loop
+pass-triangle-requires c κs = room-kept (c .before .before .before .before .before .before .loop .inv .long)
+    (c .before .before .before .before .before .before .before .before .pre .0)
+
+same-length : tie.Need-same-length Inv-loop μ-loop
+same-length c = c .before .before .pass-triangle .kept .1 .0 ∙ c .before .before .before .before .before .before .before .before .before .loop .inv .long
+
+returns : tie.Need-returns Inv-loop μ-loop
+returns c = fan-over _ (c .before .before .before .before .before .before .before .before .before .before .before .args .right)
+    (c .before .before .before .before .before .before .before .before .before .loop .k)
+    (c .before .before .before .before .before .before .before .before .before .loop .g)
+    (c .before .before .before .before .before .before .before .prev-dart .result) (c .before .before .before .before .opposite .result)
+    (c .before .before .before .before .before .before .origin .result) _ _ _
+    (c .before .before .before .before .before .before .before .before .loop-test .taken)
+    (c .before .before .before .before .before .before .before .prev-dart .ensures) (c .before .before .before .before .before .before .origin .ensures .0)
+    (c .before .before .before .before .opposite .ensures .0) (c .before .before .pass-triangle .ensures) (c .if1 .taken)
+    (c .before .before .before .before .before .before .before .before .before .loop .inv .rest)
+
+enter-frontier-requires : tie.Need-enter-frontier-requires Inv-loop μ-loop
+enter-frontier-requires c κs = (
+  room-kept (c .before .before .before .pass-triangle .kept .1 .0
+      ∙ c .before .before .before .before .before .before .before .before .before .before .loop .inv .long)
+      (c .before .before .before .before .before .before .before .before .before .before .before .before .pre .0),
+  holds-kept (c .before .before .before .pass-triangle .kept .1 .0
+      ∙ c .before .before .before .before .before .before .before .before .before .before .loop .inv .long)
+      (org-holds (c .before .before .before .before .before .before .before .before .prev-dart .result)
+      (c .before .before .before .before .before .before .before .origin .result)
+      (c .before .before .before .before .before .before .before .before .before .before .before .before .pre .0)
+      (c .before .before .before .before .before .before .before .origin .ensures .0)),
+  prev-small (c .before .before .before .before .before .before .before .before .before .before .loop .g)
+      (c .before .before .before .before .before .before .before .before .prev-dart .result)
+      (c .before .before .before .before .before .before .before .before .before .before .loop .inv .dart)
+      (c .before .before .before .before .before .before .before .before .prev-dart .ensures),
+)
+
+sub-k : tie.Need-sub-k Inv-loop μ-loop
+sub-k c = omega (arith, c .before .before .before .before .before .before .before .before .before .before .before .loop-test .taken)
+
+loop-less : tie.Need-loop-less Inv-loop μ-loop
+loop-less c = omega (arith, c .before .before .before .before .before .before .before .before .before .before .before .loop-test .taken)
+
+loop-again : tie.Need-loop-again Inv-loop μ-loop
+loop-again c = record {
+  long = c .before .enter-frontier .kept .1 .0 ∙ c .before .before .before .before .before .pass-triangle .kept .1 .0
+      ∙ c .before .before .before .before .before .before .before .before .before .before .before .before .loop .inv .long;
+  dart = c .before .before .before .before .before .before .before .opposite .ensures .1;
+  rest = fan-more _ (c .before .before .before .before .before .before .before .before .before .before .before .before .before .before .args .right)
+      (c .before .before .before .before .before .before .before .before .before .before .before .before .loop .k)
+      (c .before .before .before .before .before .before .before .before .before .before .before .before .loop .g)
+      (c .before .before .before .before .before .before .before .before .before .before .prev-dart .result)
+      (c .before .before .before .before .before .before .before .opposite .result)
+      (c .before .before .before .before .before .before .before .before .before .origin .result) _ _ _ _
+      (c .before .before .before .before .before .before .before .before .before .before .before .loop-test .taken)
+      (c .before .before .before .before .before .before .before .before .before .before .prev-dart .ensures)
+      (c .before .before .before .before .before .before .before .before .before .origin .ensures .0)
+      (c .before .before .before .before .before .before .before .opposite .ensures .0) (c .before .before .before .before .before .pass-triangle .ensures)
+      (c .before .before .before .if1 .left) (c .before .enter-frontier .ensures)
+      (c .before .before .before .before .before .before .before .before .before .before .before .before .loop .inv .rest);
+}
+
+same-length-2 : tie.Need-same-length-2 Inv-loop μ-loop
+same-length-2 c = c .before .loop .inv .long
+
+returns-2 : tie.Need-returns-2 Inv-loop μ-loop
+returns-2 c = fan-none _ (c .before .before .before .args .right) (c .before .loop .k) (c .before .loop .g) _ _ (c .loop-test .left)
+    (c .before .loop .inv .rest)
+
+pub pass-fan-spec : {M : Type 1} → statement M
+pass-fan-spec =
+    tie.close
+    (tie.spec
+    Inv-loop
+    μ-loop
+    loop-holds
+    prev-dart-requires
+    origin-requires
+    opposite-requires
+    pass-triangle-requires
+    same-length
+    returns
+    enter-frontier-requires
+    sub-k
+    loop-less
+    loop-again
+    same-length-2
+    returns-2)

@@ -1,0 +1,24 @@
+-- `labels_peel::peel` meets its contract. Assumes nothing.
+use Rattle.labels_peel.specs.LoopLaws.{room-kept, wide-kept, stage-is}
+use borrow.Author.Needs.{needs}
+use Rattle.labels_peel.proofs.peel.Statement.{statement}
+use Rattle.labels_peel.proofs.peel.Tie as tie
+
+init-requires : tie.Need-init-requires
+init-requires c κs = search needs
+
+remove-all-requires : tie.Need-remove-all-requires
+remove-all-requires c κs = (
+  room-kept (c .before .before .init .kept .1 .0) (c .before .before .before .before .before .pre .0),
+  wide-kept (c .before .before .init .kept .1 .0) (c .before .before .before .before .before .pre .1),
+)
+
+same-length : tie.Need-same-length
+same-length c = search needs
+
+returns : tie.Need-returns
+returns c = stage-is _ (c .before .before .before .before .before .before .before .args .n) _ _ _ (c .before .before .before .before .init .ensures)
+    (c .before .remove-all .ensures)
+
+pub peel-spec : {M : Type 1} → statement M
+peel-spec = tie.close (tie.spec init-requires remove-all-requires same-length returns)

@@ -1,0 +1,52 @@
+-- `labels_peel::set_block_bound` meets its contract. Assumes nothing.
+use native.Mathlib.Omega.{arith}
+use Rattle.labels_peel.specs.LoopLaws.{mark-room, setLow-is}
+use borrow.Author.Needs.{needs}
+use Rattle.labels_peel.proofs.set_block_bound.Statement.{statement}
+use Rattle.labels_peel.proofs.set_block_bound.Tie as tie
+
+mul-get-mark : tie.Need-mul-get-mark
+mul-get-mark c = omega (arith, c .before .pre .0 .small)
+
+get-mark-requires : tie.Need-get-mark-requires
+get-mark-requires c κs = search needs
+
+mul-set-mark : tie.Need-mul-set-mark
+mul-set-mark c = omega (arith, c .before .before .before .pre .0 .small)
+
+mul-set-mark-2 : tie.Need-mul-set-mark-2
+mul-set-mark-2 c = omega (arith, c .before .get-mark .ensures .1, c .before .before .before .pre .1)
+
+add-set-mark : tie.Need-add-set-mark
+add-set-mark c = omega (arith, c .before .get-mark .ensures .1, c .before .before .before .pre .1)
+
+mul-set-mark-3 : tie.Need-mul-set-mark-3
+mul-set-mark-3 c = omega (arith, c .before .get-mark .ensures .1, c .before .before .before .pre .1)
+
+add-set-mark-2 : tie.Need-add-set-mark-2
+add-set-mark-2 c = omega (arith, c .before .get-mark .ensures .1, c .before .before .before .pre .1)
+
+set-mark-requires : tie.Need-set-mark-requires
+set-mark-requires c κs = (mark-room (c .before .before .before .pre .0), omega (arith, c .before .get-mark .ensures .1, c .before .before .before .pre .1))
+
+same-length : tie.Need-same-length
+same-length c = search needs
+
+returns : tie.Need-returns
+returns c = setLow-is (c .before .before .before .before .before .args .b) (c .before .before .before .before .before .args .x)
+    (c .before .before .before .get-mark .result) _ _ (c .before .before .before .get-mark .ensures .0) (c .before .set-mark .ensures)
+
+pub set-block-bound-spec : {M : Type 1} → statement M
+set-block-bound-spec =
+    tie.close
+    (tie.spec
+    mul-get-mark
+    get-mark-requires
+    mul-set-mark
+    mul-set-mark-2
+    add-set-mark
+    mul-set-mark-3
+    add-set-mark-2
+    set-mark-requires
+    same-length
+    returns)

@@ -1,2 +1,0 @@
--- What laying out asks and gives.
-pub mod Turns

@@ -1,2 +1,0 @@
--- Steps of the writers of lines.
-pub mod Steps

@@ -1,4 +1,0 @@
--- What the maps answer in document 01's numbers, and what they leave in scratch and in the slice that they write.
-pub mod Told
-pub mod Early
-pub mod Call

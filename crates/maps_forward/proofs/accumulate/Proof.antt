@@ -1,0 +1,25 @@
+-- `maps_forward::accumulate` meets its contract, from those of `hand_left` and `add`. Assumes nothing.
+use Rattle.scratch_tables.specs.Tables.{tablesOf}
+use Rattle.maps_forward.specs.LoopLaws.{leave-room, leave-made}
+use borrow.Author.Needs.{needs}
+use Rattle.maps_forward.proofs.accumulate.Statement.{statement}
+use Rattle.maps_forward.proofs.accumulate.Tie as tie
+
+add-requires : tie.Need-add-requires
+add-requires c κs = search (tablesOf, leave-room)
+
+returns : tie.Need-returns
+returns c = search (tablesOf, leave-made)
+
+pub accumulate-spec : {M : Type 1} → statement M
+accumulate-spec =
+    tie.close
+    (tie.spec
+    (λ c κs. search needs)
+    (λ c κs. search needs)
+    (λ c κs. search needs)
+    (λ c κs. search needs)
+    (λ c κs. search needs)
+    add-requires
+    (λ c. search needs)
+    returns)

@@ -1,0 +1,59 @@
+-- `maps_forward::accumulate_all` meets its contract. The loop's invariant: the vertices passed have left. Assumes nothing.
+use borrow.Author.Needs.{needs}
+use mathlib.Core.Path.{_≡_, _∙_, ap}
+use Prim.Native.Nat.{ℕ, _≤_, _-_}
+use native.Mathlib.Omega.{arith}
+use lib.ListN.{length}
+use Rattle.scratch_tables.specs.Tables.{tablesOf}
+use Rattle.maps_forward_model.specs.Model.{accumulateAll}
+use Rattle.maps_forward.specs.LoopLaws.{downs-none, downs-more, down-room}
+use Rattle.maps_forward.proofs.accumulate_all.Statement.{statement}
+use Rattle.maps_forward.proofs.accumulate_all.Tie as tie
+
+abbrev Inv-loop : tie.InvT-loop
+Inv-loop n triangles scratch weights coordinates₀ k₀ coordinates k = (coordinates ≡ accumulateAll triangles (tablesOf scratch) weights k coordinates₀)
+    × (length coordinates ≡ length coordinates₀) × (k ≤ n - 2)
+
+abbrev μ-loop : tie.MeasureT-loop
+μ-loop n triangles scratch weights coordinates₀ k₀ coordinates k = n - k
+
+loop-holds : tie.Need-loop-holds Inv-loop μ-loop
+loop-holds c = search (tablesOf, downs-none, needs)
+
+get-mark-requires : tie.Need-get-mark-requires Inv-loop μ-loop
+get-mark-requires c κs = tt
+
+accumulate-requires : tie.Need-accumulate-requires Inv-loop μ-loop
+accumulate-requires c κs =
+    let start : tie.Start Inv-loop μ-loop = search in
+    let at-loop : tie.At-loop Inv-loop μ-loop = search in
+    let in-loop : tie.In-loop Inv-loop μ-loop = search in
+    let l = at-loop .loop in
+    down-room _ _ (tablesOf _) _ (l .k) _ _ (l .coordinates) (start .pre .0) (start .pre .1) (in-loop .loop-test .taken) (l .inv .0)
+    (c .before .get-mark .ensures .0)
+
+loop-again : tie.Need-loop-again Inv-loop μ-loop
+loop-again c = search (tablesOf, downs-more, needs)
+
+returns : tie.Need-returns Inv-loop μ-loop
+returns c = let a = c .before .before .before .args in let l = c .before .loop in
+    let e : l .k ≡ a .n - 2 = omega (arith, c .loop-test .left, l .inv .2) in
+    l .inv .0 ∙ ap (λ (j : ℕ). accumulateAll (a .triangles .now) (tablesOf (a .scratch .now)) (a .weights .now) j (a .coordinates .now)) e
+
+pub accumulate-all-spec : {M : Type 1} → statement M
+accumulate-all-spec =
+    tie.close
+    (tie.spec
+    Inv-loop
+    μ-loop
+    loop-holds
+    (λ c. search needs)
+    (λ c. search needs)
+    (λ c. search needs)
+    get-mark-requires
+    accumulate-requires
+    (λ c. search needs)
+    (λ c. search needs)
+    loop-again
+    (λ c. search needs)
+    returns)

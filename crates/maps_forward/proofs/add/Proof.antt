@@ -1,0 +1,25 @@
+-- `maps_forward::add` meets its contract, from those of `at`, `plus` and `store`. Assumes nothing.
+use mathlib.Core.Path.{_∙_, ap, ap₂}
+use lib.ListN.{set}
+use lib.IntN.{_+ℤ_}
+use Rattle.int64.specs.Whole.{held}
+use Rattle.maps_forward.specs.LoopLaws.{added}
+use borrow.Author.Needs.{needs}
+use Rattle.maps_forward.proofs.add.Statement.{statement}
+use Rattle.maps_forward.proofs.add.Tie as tie
+
+plus-requires : tie.Need-plus-requires
+plus-requires c κs = let x = c .before .before .at in let y = c .at2 in
+    rw (held (x .result) (x .ok), held (y .result) (y .ok), x .ensures, y .ensures) (search)
+
+returns : tie.Need-returns
+returns c = let a = c .before .before .before .before .before .before .before .before .args in
+    let x = c .before .before .before .before .before .before .at in let y = c .before .before .before .before .at2 in
+    let z = c .before .before .before .plus in
+    added (a .to) (a .from) (a .s .now) (c .before .store .last .0) (x .result) (y .result) (z .result) (x .ensures) (y .ensures)
+    (z .ensures .0 ∙ ap₂ _+ℤ_ (held (x .result) (x .ok)) (held (y .result) (y .ok)))
+    (c .before .store .ensures ∙ ap (set (a .s .now) (a .to)) (held (z .result) (z .ok)))
+
+pub add-spec : {M : Type 1} → statement M
+add-spec =
+    tie.close (tie.spec (λ c κs. search needs) (λ c κs. search needs) plus-requires (λ c κs. search needs) (λ c. search needs) returns)

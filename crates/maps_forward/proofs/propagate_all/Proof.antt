@@ -1,0 +1,68 @@
+-- `maps_forward::propagate_all` meets its contract. The loop's invariant: the vertices passed are back. Assumes nothing.
+use borrow.Author.Needs.{needs}
+use mathlib.Core.Path.{_≡_, _∙_, ap}
+use Prim.Native.Nat.{ℕ, _≤_, _-_}
+use native.Mathlib.Omega.{arith}
+use lib.ListN.{length}
+use Rattle.scratch_tables.specs.Tables.{tablesOf}
+use Rattle.maps_forward_model.specs.Model.{propagateAll}
+use Rattle.maps_forward.specs.LoopLaws.{ups-none, ups-more, up-room, up-index}
+use Rattle.maps_forward.proofs.propagate_all.Statement.{statement}
+use Rattle.maps_forward.proofs.propagate_all.Tie as tie
+
+abbrev Inv-loop : tie.InvT-loop
+Inv-loop n triangles scratch coordinates₀ k₀ coordinates k = (coordinates ≡ propagateAll triangles (tablesOf scratch) (n - 2) k coordinates₀)
+    × (length coordinates ≡ length coordinates₀) × (k ≤ n - 2)
+
+abbrev μ-loop : tie.MeasureT-loop
+μ-loop n triangles scratch coordinates₀ k₀ coordinates k = n - k
+
+loop-holds : tie.Need-loop-holds Inv-loop μ-loop
+loop-holds c = search (tablesOf, ups-none, needs)
+
+sub-get-mark : tie.Need-sub-get-mark Inv-loop μ-loop
+sub-get-mark c = omega (arith, c .loop-test .taken)
+
+sub-get-mark-2 : tie.Need-sub-get-mark-2 Inv-loop μ-loop
+sub-get-mark-2 c = omega (arith, c .loop-test .taken)
+
+get-mark-requires : tie.Need-get-mark-requires Inv-loop μ-loop
+get-mark-requires c κs = tt
+
+propagate-requires : tie.Need-propagate-requires Inv-loop μ-loop
+propagate-requires c κs = let l = c .before .before .before .loop in
+    up-room _ _ (tablesOf _) (l .k) _ _ (l .coordinates) (search) (search) (search) (l .inv .0)
+    (c .before .get-mark .ensures .0 ∙ up-index _ (l .k) (tablesOf _) (search))
+
+loop-again : tie.Need-loop-again Inv-loop μ-loop
+loop-again c = let a = c .before .before .before .before .before .before .before .args in let l = c .before .before .before .before .before .loop in (
+  ups-more _ (tablesOf _) (a .n - 2) (l .k) _ _ (l .coordinates) _ (l .inv .0)
+      (c .before .before .before .get-mark .ensures .0 ∙ up-index _ (l .k) (tablesOf _) (search)) (search),
+  omega (arith, c .before .propagate .kept, l .inv .1),
+  omega (arith, c .before .before .before .before .loop-test .taken),
+)
+
+returns : tie.Need-returns Inv-loop μ-loop
+returns c = let a = c .before .before .before .args in let l = c .before .loop in
+    let e : l .k ≡ a .n - 2 = omega (arith, c .loop-test .left, l .inv .2) in
+    l .inv .0 ∙ ap (λ (j : ℕ). propagateAll (a .triangles .now) (tablesOf (a .scratch .now)) (a .n - 2) j (a .coordinates .now)) e
+
+pub propagate-all-spec : {M : Type 1} → statement M
+propagate-all-spec =
+    tie.close
+    (tie.spec
+    Inv-loop
+    μ-loop
+    loop-holds
+    (λ c. search needs)
+    sub-get-mark
+    sub-get-mark-2
+    (λ c. search needs)
+    (λ c. search needs)
+    get-mark-requires
+    propagate-requires
+    (λ c. search needs)
+    (λ c. search needs)
+    loop-again
+    (λ c. search needs)
+    returns)

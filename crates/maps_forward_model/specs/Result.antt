@@ -1,0 +1,302 @@
+-- What the code of the forward map leaves in the lent coordinates is what the definition gives, and on the way every sum has room. Assumes nothing.
+use Prim.Native.Nat.{ℕ, zero, suc, _+_, _-_, _*_, _/_, _%_, _≤_, _<_, _^_}
+use mathlib.Core.Path.{_≡_, refl, sym, ap, ap₂, _∙_}
+use mathlib.Core.Logic.{_≢_}
+use mathlib.Core.Bool.{false}
+use mathlib.Core.List.{List, map}
+use native.Mathlib.Omega.{arith}
+use native.Mathlib.Decide.{ℕ-discrete, decLt}
+use lib.ListN.{length, getD, length-map, List·getD-map, List·getD-eq-default}
+use lib.Seq.{ext-getD}
+use lib.IntN.{ℤ, pos, negsuc, negℤ, natAbs, _+ℤ_, _-ℤ_}
+use borrow.Author.Tests.{ltb-false}
+use Rattle.definitions.specs.Lists.{total, totalAbs}
+use Rattle.definitions.specs.Mesh.{weightsLength, next, org, opp}
+use Rattle.definitions.specs.Labels.{outer, label}
+use Rattle.definitions.specs.Forward.{weight, forward}
+use Rattle.definitions.specs.Backward.{coordinate}
+use Rattle.definitions.specs.Repair.{limit}
+use Rattle.definitions.specs.Refusals.{row9}
+use Rattle.laws.specs.Lists.{getD-in, totalAbs-in}
+use Rattle.laws.specs.Sums.{sum, abs-+}
+use Rattle.theory_sphere.specs.Sphere.{Sphere}
+use Rattle.theory_realizer.specs.Trace.{Trace, done, step, removedVertices}
+use Rattle.theory_realizer.specs.Realizer.{Realizer}
+use Rattle.theory_realizer.specs.Units.{Units}
+use Rattle.theory_crossings.specs.Colours.{org-below, tip-below, outer-below}
+use Rattle.theory_crossings.specs.Tests.{named}
+use Rattle.theory_crossings.specs.UnitMaps.{units}
+use Rattle.theory_repair.specs.Coordinates.{length-forward, coordinate-coordinatesOf, place0, place1, place2, total-sum}
+use Rattle.theory_repair.specs.Bounds.{coordinate-bound}
+use Rattle.theory_inverse.specs.Drawings.{Drawing}
+use Rattle.theory_inverse.specs.Maps.{less-plus, through, reached, forward-drawing, through-last, crossedWeight-reached}
+use Rattle.scratch_tables.specs.Tables.{Tables, tablesOf}
+use Rattle.labels_tables.specs.LabelledTables.{Peeled, Stored, oppositeIn, oppositeIn-is}
+use Rattle.maps_forward_model.specs.Removals.{Removal, Removals, all-removals}
+use Rattle.maps_forward_model.specs.Model.{wordIndex, accumulateAll, withCorners, propagateAll, third, thirds, whole, set-at, set-off, length-downs}
+use Rattle.maps_forward_model.specs.Model.{length-cornered, length-ups, length-thirds}
+use Rattle.maps_forward_model.specs.RemovalStep.{Room}
+use Rattle.maps_forward_model.specs.Accumulate as Falling
+use Rattle.maps_forward_model.specs.Propagate as Rising
+use Rattle.maps_forward_model.specs.Propagate.{Ceiling}
+
+-- ---- b2, vertex by vertex
+
+module _ (ts : List ℕ) where
+  -- the other two coordinates stay
+  pub thirds-0 : (k : ℕ) (bs : List ℤ) (i : ℕ) → coordinate (thirds ts k bs) 0 i ≡ coordinate bs 0 i
+  unfolding thirds third
+  thirds-0 zero bs i = refl
+  thirds-0 (suc k) bs i = set-off (thirds ts k bs) _ (wordIndex 2 k) 0 i (omega arith) ∙ thirds-0 k bs i
+
+  pub thirds-1 : (k : ℕ) (bs : List ℤ) (i : ℕ) → coordinate (thirds ts k bs) 1 i ≡ coordinate bs 1 i
+  unfolding thirds third
+  thirds-1 zero bs i = refl
+  thirds-1 (suc k) bs i = set-off (thirds ts k bs) _ (wordIndex 2 k) 1 i (omega arith) ∙ thirds-1 k bs i
+
+  third-is : (k : ℕ) (bs : List ℤ) → wordIndex 2 k < length bs →
+      coordinate (third ts k bs) 2 k ≡ coordinate bs 1 (org ts 2) -ℤ coordinate bs 0 k -ℤ coordinate bs 1 k
+  unfolding third coordinate
+  third-is k bs h = set-at bs _ 2 k h
+
+  third-off : (k : ℕ) (bs : List ℤ) (i : ℕ) → i ≢ k → coordinate (third ts k bs) 2 i ≡ coordinate bs 2 i
+  unfolding third
+  third-off k bs i h = set-off bs _ (wordIndex 2 k) 2 i (omega (arith, h))
+
+  pub thirds-2 : (k : ℕ) (bs : List ℤ) (i : ℕ) → i < k → wordIndex 2 i < length bs →
+      coordinate (thirds ts k bs) 2 i ≡ coordinate bs 1 (org ts 2) -ℤ coordinate bs 0 i -ℤ coordinate bs 1 i
+  unfolding thirds
+  thirds-2 zero bs i h l = absurd (omega arith)
+  thirds-2 (suc k) bs i h l =
+      elim (ℕ-discrete i k) [
+        | yes p ↦
+            ap (λ (j : ℕ). coordinate (third ts k (thirds ts k bs)) 2 j) p
+            ∙ third-is k (thirds ts k bs) (omega (arith, length-thirds ts k bs, l, p))
+            ∙ ap₂ _-ℤ_ (ap₂ _-ℤ_ (thirds-1 k bs (org ts 2)) (thirds-0 k bs k)) (thirds-1 k bs k)
+            ∙ ap (λ (j : ℕ). coordinate bs 1 (org ts 2) -ℤ coordinate bs 0 j -ℤ coordinate bs 1 j) (sym p)
+        | no p ↦ third-off k (thirds ts k bs) i p ∙ thirds-2 k bs i (omega (arith, p)) l
+      ]
+
+-- ---- small numbers
+
+neg-abs : (z : ℤ) → natAbs (negℤ z) ≡ natAbs z
+neg-abs (pos zero) = refl
+neg-abs (pos (suc k)) = refl
+neg-abs (negsuc k) = refl
+
+less-small : (a b s : ℤ) → a ≡ s +ℤ b → natAbs a ≤ limit → natAbs b ≤ limit → natAbs s ≤ 2 * limit
+less-small a b s e h k = omega (arith, ap natAbs (less-plus a b s e), abs-+ a (negℤ b), neg-abs b)
+
+weight-small : (ws : List ℤ) → row9 ws ≡ false → (x : ℕ) → natAbs (weight ws x) ≤ limit
+unfolding weight row9
+weight-small ws h zero = omega arith
+weight-small ws h (suc x) =
+    elim (decLt x (length ws)) [
+      | yes l ↦ omega (arith, totalAbs-in (getD-in ws x (pos 0) l), ltb-false limit (totalAbs ws) h)
+      | no l ↦ rw (List·getD-eq-default ws (pos 0) {n = x} (omega (arith, l))) (omega arith)
+    ]
+
+-- as many vertices leave as there are steps
+stored-length : (n : ℕ) (t : Tables) {T : ℕ} {o f : ℕ → ℕ} {C : List ℕ} (tr : Trace T o f C) (j : ℕ) → Stored n T o f t j tr →
+    j + length (removedVertices T o f tr) ≡ n - 2
+unfolding removedVertices
+stored-length n t done j s = omega (arith, s)
+stored-length n t (step e e′ gs h o f s tr) j q = omega (arith, stored-length n t tr (suc j) (q .3))
+
+-- what has come down to v1
+settled-last : (T : ℕ) (o f : ℕ → ℕ) (F : ℕ → ℤ) (bs : List ℤ) {C : List ℕ} (tr : Trace T o f C) → Falling.Settled T o f F bs tr →
+    coordinate bs 1 (o 2) ≡ F 2
+settled-last T o f F bs done k = k
+settled-last T o f F bs (step e e′ gs h q a s tr) k = settled-last T o f F bs tr (k .2)
+
+-- all words of a list that holds zeros
+zeros-at : (bs : List ℤ) (c i : ℕ) → coordinate (map (λ _. pos 0) bs) c i ≡ pos 0
+unfolding coordinate
+zeros-at bs c i = List·getD-map (λ (_ : ℤ). pos 0) bs (3 * i + c) (pos 0)
+
+module _ {n : ℕ} {ts ls : List ℕ} {s : List ℤ} (P : Peeled n ts ls s) (ws : List ℤ) (len : length ws ≡ weightsLength n) (low : row9 ws ≡ false)
+    (bs : List ℤ) (long : length bs ≡ 3 * n) where
+  abbrev T : ℕ
+  T = length ts / 3
+
+  abbrev t : Tables
+  t = tablesOf s
+
+  abbrev sph : Sphere n (length ts / 3) (org ts) (opp ts)
+  sph = P .labelled .sphere
+
+  abbrev R : Realizer n (length ts / 3) (org ts) (opp ts) (label ls) (outer ts)
+  R = P .realizer
+
+  size : length ts ≡ 3 * (length ts / 3)
+  size = omega (arith, P .labelled .size)
+
+  abbrev F : ℕ → ℤ
+  F = through ts ls sph size R ws
+
+  abbrev B0 : ℕ → ℤ
+  B0 = reached ts ls sph size R ws 1
+
+  abbrev B1 : ℕ → ℤ
+  B1 = reached ts ls sph size R ws 0
+
+  D : Drawing T (org ts) (opp ts) (label ls) (outer ts) (weight ws) F B0 B1
+  D = forward-drawing ts ls sph size R ws
+
+  words : (d : ℕ) → d < 3 * T → oppositeIn (t .op) d ≡ opp ts d
+  words d h = oppositeIn-is (P .labelled) d (omega (arith, size))
+
+  tu : Removals T (org ts) (opp ts) (label ls) (outer ts) (R .trace)
+  tu = all-removals sph R (named ts) (omega (arith, stored-length n t (R .trace) 0 (P .stored)))
+
+  U : Units n ts ls
+  U = units ts ls sph (P .labelled .size) R
+
+  -- b0 and b1 of the definition
+  placed : (i : ℕ) → i < n → (coordinate (forward n ts ls ws) 0 i ≡ B0 i) × (coordinate (forward n ts ls ws) 1 i ≡ B1 i)
+  placed i h =
+      let r = crossedWeight-reached ts ls sph size R ws i h in (
+        coordinate-coordinatesOf n ts ls ws 0 i (omega arith) h ∙ place0 n ts ls ws i ∙ r .0,
+        coordinate-coordinatesOf n ts ls ws 1 i (omega arith) h
+            ∙ place1 n ts ls ws i ∙ r .1,
+      )
+
+  near : (i : ℕ) → i < n → (natAbs (B0 i) ≤ limit) × (natAbs (B1 i) ≤ limit)
+  unfolding row9
+  near i h =
+      let p = placed i h in
+      let l = ltb-false limit (totalAbs ws) low in (
+        omega (arith, ap natAbs (p .0), coordinate-bound n ts ls (P .labelled .size) U ws len 0 i (omega arith) h),
+        omega (arith, ap natAbs (p .1), coordinate-bound n ts ls (P .labelled .size) U ws len 1 i (omega arith) h),
+      )
+
+  small : (e e′ : ℕ) (gs C C′ L : List ℕ) → Removal T (org ts) (opp ts) (label ls) (outer ts) e e′ gs C C′ L → (natAbs (F e) ≤ 2 * limit)
+      × (natAbs (F e′) ≤ 2 * limit)
+  small e e′ gs C C′ L turn =
+      let a = turn .left in
+      let b = turn .right in (
+        less-small (B1 (org ts e)) (B1 (org ts (next e))) (F e) (D .down0 e a) (near (org ts e) (org-below sph R (named ts) a) .1)
+            (near (org ts (next e)) (tip-below sph R (named ts) a) .1),
+        less-small (B0 (org ts (opp ts e′))) (B0 (org ts (next (opp ts e′)))) (F e′) (D .down1 (opp ts e′) b
+            ∙ ap (λ (z : ℤ). z +ℤ B0 (org ts (next (opp ts e′)))) (D .side e′ (turn .below′)))
+            (near (org ts (opp ts e′)) (org-below sph R (named ts) b) .0) (near (org ts (next (opp ts e′))) (tip-below sph R (named ts) b) .0),
+      )
+
+  -- ---- down
+
+  abbrev zeros : List ℤ
+  zeros = map (λ _. pos 0) bs
+
+  long-zeros : length zeros ≡ 3 * n
+  long-zeros = length-map bs (λ (_ : ℤ). pos 0) ∙ long
+
+  pub rooms : (k : ℕ) → k < n - 2 → Room ts t ws (t .mark (2 * k + 1)) (accumulateAll ts t ws k zeros)
+  rooms = Falling.rooms ts ls sph size R t words ws zeros long-zeros D small (weight-small ws low) (P .stored) tu (zeros-at bs 1)
+
+  abbrev low-end : List ℤ
+  low-end = accumulateAll ts t ws (n - 2) zeros
+
+  settled : Falling.Settled T (org ts) (opp ts) F low-end (R .trace)
+  settled = Falling.settled ts ls sph size R t words ws zeros long-zeros D small (weight-small ws low) (P .stored) tu (zeros-at bs 1)
+
+  long-low : length low-end ≡ 3 * n
+  long-low = length-downs ts t ws (n - 2) zeros ∙ long-zeros
+
+  -- ---- up
+
+  abbrev base : List ℤ
+  base = withCorners ts low-end
+
+  long-base : length base ≡ 3 * n
+  long-base = length-cornered ts low-end ∙ long-low
+
+  rims : Rising.Stands ts ls sph R t D base (org ts 0) × Rising.Stands ts ls sph R t D base (org ts 2)
+  rims = Rising.corners-stand ts ls sph R t D low-end long-low (settled-last T (org ts) (opp ts) F low-end (R .trace) settled)
+
+  settled-base : Falling.Settled T (org ts) (opp ts) F base (R .trace)
+  settled-base = Rising.settled-cornered ts ls sph R t D low-end long-low (R .trace) tu settled
+
+  pub ceilings : (k : ℕ) → k < n - 2 → Ceiling ts t (t .mark (2 * (n - 2 - suc k) + 1)) (propagateAll ts t (n - 2) k base)
+  ceilings = Rising.ceilings ts ls sph R t D base long-base (rims .0) (rims .1) small near (P .stored) tu settled-base
+
+  abbrev high : List ℤ
+  high = propagateAll ts t (n - 2) (n - 2) base
+
+  stand : (i : ℕ) → i < n → (coordinate high 0 i ≡ B0 i) × (coordinate high 1 i ≡ B1 i)
+  stand = Rising.all-stand ts ls sph R t D base long-base (rims .0) (rims .1) small near (P .stored) tu settled-base
+
+  -- ---- b2
+
+  v1-in : org ts 2 < n
+  v1-in = sph .vertex 2 (outer-below sph R (named ts))
+
+  -- what the code takes b2 from is small
+  pub thirds-room : (k i : ℕ) → i < n →
+      natAbs (coordinate (thirds ts k high) 1 (org ts 2)) + natAbs (coordinate (thirds ts k high) 0 i) + natAbs (coordinate (thirds ts k high) 1 i) < 2 ^ 63
+  thirds-room k i h =
+      let a = stand (org ts 2) v1-in in
+      let b = stand i h in
+      rw (thirds-1 ts k high (org ts 2) ∙ a .1, thirds-0 ts k high i ∙ b .0, thirds-1 ts k high i ∙ b .1)
+      (omega (arith, near (org ts 2) v1-in .1, near i h .0, near i h .1))
+
+  N-is : coordinate high 1 (org ts 2) ≡ total ws
+  N-is =
+      let e : length ts / 3 - 1 ≡ weightsLength n = omega (arith, P .labelled .size) in
+      stand (org ts 2) v1-in .1 ∙ Rising.N-is ts ls sph R t D .0 ∙ through-last ts ls sph size R ws ∙ ap (λ (k : ℕ). sum (weight ws) 1 k) e
+      ∙ sym (total-sum n ts ls (P .labelled .size) U ws len)
+
+  -- ---- all of it
+
+  abbrev end : List ℤ
+  end = thirds ts n high
+
+  long-end : length end ≡ 3 * n
+  long-end = length-thirds ts n high ∙ length-ups ts t (n - 2) (n - 2) base ∙ long-base
+
+  ends : (c i : ℕ) → c < 3 → i < n → coordinate end c i ≡ coordinate (forward n ts ls ws) c i
+  ends zero i l h = thirds-0 ts n high i ∙ stand i h .0 ∙ sym (placed i h .0)
+  ends (suc zero) i l h = thirds-1 ts n high i ∙ stand i h .1 ∙ sym (placed i h .1)
+  ends (suc (suc zero)) i l h =
+      let r = crossedWeight-reached ts ls sph size R ws i h in
+      thirds-2 ts n high i h (omega (arith, length-ups ts t (n - 2) (n - 2) base, long-base))
+      ∙ ap₂ _-ℤ_ (ap₂ _-ℤ_ N-is (stand i h .0 ∙ sym (r .0))) (stand i h .1 ∙ sym (r .1))
+      ∙ sym (coordinate-coordinatesOf n ts ls ws 2 i (omega arith) h ∙ place2 n ts ls ws i)
+  ends (suc (suc (suc c))) i l h = absurd (omega arith)
+
+  pub whole-is : whole n ts t ws bs ≡ forward n ts ls ws
+  unfolding whole coordinate
+  whole-is =
+      ext-getD (pos 0) end (forward n ts ls ws) (long-end ∙ sym (length-forward n ts ls ws))
+      (λ d h.
+      let e : d ≡ 3 * (d / 3) + d % 3 = omega arith in
+      ap (λ (j : ℕ). getD end j (pos 0)) e ∙ ends (d % 3) (d / 3) (omega arith) (omega (arith, long-end))
+      ∙ ap (λ (j : ℕ). getD (forward n ts ls ws) j (pos 0)) (sym e))
+
+  -- ---- what the loops ask, as they ask it
+
+  marks-at : {C : List ℕ} (tr : Trace T (org ts) (opp ts) C) (j : ℕ) → Stored n T (org ts) (opp ts) t j tr →
+      Removals T (org ts) (opp ts) (label ls) (outer ts) tr →
+      (k : ℕ) → j ≤ k → k < n - 2 → t .mark (2 * k + 1) < n
+  marks-at done j st u k l h = absurd (omega (arith, st))
+  marks-at (step e e′ gs b o f s tr) j st u k l h =
+      elim (ℕ-discrete k j) [
+        | yes p ↦ rw (p, st .0) (sph .vertex e (u .0 .below))
+        | no p ↦ marks-at tr (suc j) (st .3) (u .1) k (omega (arith, p)) h
+      ]
+
+  marks : (k : ℕ) → k < n - 2 → t .mark (2 * k + 1) < n
+  marks k h = marks-at (R .trace) 0 (P .stored) tu k (omega arith) h
+
+  pub few : n < 65536
+  few = omega (arith, P .labelled .most)
+
+  pub down-asks : (k : ℕ) → k < n - 2 → (t .mark (2 * k + 1) < n) × Room ts t ws (t .mark (2 * k + 1)) (accumulateAll ts t ws k zeros)
+  down-asks k h = (marks k h, rooms k h)
+
+  pub up-asks : (k : ℕ) → k < n - 2 →
+      (t .mark (2 * (n - 2 - suc k) + 1) < n) × Ceiling ts t (t .mark (2 * (n - 2 - suc k) + 1)) (propagateAll ts t (n - 2) k base)
+  up-asks k h = (marks (n - 2 - suc k) (omega arith), ceilings k h)
+
+  pub thirds-asks : (k : ℕ) → k < n →
+      natAbs (coordinate (thirds ts k high) 1 (org ts 2)) + natAbs (coordinate (thirds ts k high) 0 k) + natAbs (coordinate (thirds ts k high) 1 k) < 2 ^ 63
+  thirds-asks k h = thirds-room k k h

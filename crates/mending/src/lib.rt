@@ -1,1 +1,0 @@
-// No code here: specs/ proves what maps and repair keep: coordinates as sums, their bounds, areas, and the raises of repair.

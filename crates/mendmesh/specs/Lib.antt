@@ -1,2 +1,0 @@
--- How repair starts on a peeled mesh.
-pub mod Starts

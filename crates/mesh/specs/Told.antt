@@ -1,9 +1,0 @@
--- The answer of the mesh check as document 01 states it. Definitions only.
-use Rattle.definitions.specs.Answers.{Answer, done, refused, plain}
-use Rattle.mesh.specs.declared.MeshAnswer.{MeshAnswer}
-use Rattle.mesh.specs.declared.MeshAnswer.the-variants.{Accepted, Refused}
-
--- An accepted mesh answers nothing beyond that. (The number of its darts is for the calls that go on from there.) A refusal carries its number.
-abbrev pub meshTold : MeshAnswer → Answer (Unit {0})
-meshTold (Accepted darts) = done tt
-meshTold (Refused k) = refused (plain k)

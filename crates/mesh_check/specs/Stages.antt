@@ -1,0 +1,236 @@
+-- The steps of the mesh check put together: what scratch holds after each, and which row it has found. Assumes nothing.
+use Prim.Native.Nat.{ℕ, _*_, _/_, _%_, _≤_, _<_, _^_}
+use mathlib.Core.Path.{_≡_, sym, ap, _∙_}
+use mathlib.Core.Bool.{Bool, true, false}
+use mathlib.Core.List.{List}
+use mathlib.Core.Option.{none, some}
+use native.Mathlib.Omega.{arith}
+use native.Mathlib.Decide.{decLt}
+use lib.ListN.{length, List·getD-eq-default}
+use lib.IntN.{ℤ}
+use Rattle.definitions.specs.Mesh.{trianglesLength, org, opp, row3, row4, row5, row6, row7, row8}
+use Rattle.definitions.specs.Answers.{firstRefusal}
+use Rattle.definitions.specs.Refusals.{mostVertices, meshRows, Accepted as AcceptedMesh}
+use Rattle.theory_sphere.specs.Rows.{row3-means}
+use Rattle.theory_sphere.specs.Sides.{Sides, sides}
+use Rattle.theory_sphere.specs.Sphere.{Sphere}
+use Rattle.theory_sphere.specs.Accept.{range-row1, accepted-sphere}
+use Rattle.theory_sphere.specs.FirstRefusal.{clean-refusal, mesh-5, mesh-6, mesh-7, mesh-8}
+use Rattle.scratch_tables.specs.Tables.{Tables, tablesOf, blank, withOp, withMark}
+use Rattle.mesh_model.specs.IncidenceLists.{fill, fill-buckets, fill-heads, fill-mark, Bucketed, Headed, blank-counts, blank-heads, Rooted, bucketed-rooted}
+use Rattle.mesh_model.specs.DuplicateSides.{Before}
+use Rattle.mesh_model.specs.Opposites.{Told, twice, lacking, paired, joinAll-told}
+use Rattle.mesh_model.specs.RingWalk.{someRingBroken, someRingBroken-is}
+use Rattle.mesh_model.specs.FloodFill.{explore-is}
+use Rattle.mesh_sides.specs.Room.{Room, room, Ready, Filling}
+use Rattle.mesh_sides.specs.LoopInvariants.{AllMatched, joinedAll}
+use Rattle.mesh_connectivity.specs.FloodFillLoops.{Marks, Split}
+use Rattle.mesh_check.specs.declared.MeshAnswer.{MeshAnswer}
+use Rattle.mesh_check.specs.declared.MeshAnswer.the-variants.{Accepted, Refused}
+
+-- ---- what is lent, and what is left there
+
+-- Rows 1 and 2 have found nothing. (Ten words a vertex are used; the scratch that is lent has 24.)
+pub record Lent (n : ℕ) (ts : List ℕ) (words : ℕ) : Type 0 where
+  pub least : 3 ≤ n
+  pub most : n ≤ 4096
+  pub triangles : length ts ≡ trianglesLength n
+  pub room : 10 * n ≤ words
+
+-- the opposites, the number of darts of each vertex, and a dart of each
+pub record Opened (ts : List ℕ) (t : Tables) : Type 0 where
+  pub opposites : (d : ℕ) → d < length ts → t .op d ≡ opp ts d
+  pub rooted : Rooted ts t
+
+-- rows 3 to 6 have found nothing
+pub record Paired (n : ℕ) (ts : List ℕ) (t : Tables) : Type 0 where
+  pub none3 : row3 ts n ≡ false
+  pub none4 : row4 ts ≡ false
+  pub none5 : row5 ts ≡ false
+  pub none6 : row6 ts ≡ false
+  pub tables : Opened ts t
+
+-- no row of the mesh has found anything; d is the number of darts
+pub record Accepting (n : ℕ) (ts : List ℕ) (t : Tables) (d : ℕ) : Type 0 where
+  pub clean : firstRefusal (meshRows n ts) ≡ none
+  pub darts : d ≡ length ts
+  pub tables : Opened ts t
+
+-- what the answer says: of the rows 3 to 6, and of all rows
+abbrev pub SidesPaired : ℕ → List ℕ → List ℤ → MeshAnswer → Type 0
+SidesPaired n ts s (Accepted d) = Paired n ts (tablesOf s) × (d ≡ length ts)
+SidesPaired n ts s (Refused k) = firstRefusal (meshRows n ts) ≡ some k
+
+abbrev pub Examined : ℕ → List ℕ → List ℤ → MeshAnswer → Type 0
+Examined n ts s (Accepted d) = Accepting n ts (tablesOf s) d
+Examined n ts s (Refused k) = firstRefusal (meshRows n ts) ≡ some k
+
+-- ---- room
+
+-- so many numbers make whole triangles
+whole : (n : ℕ) (ts : List ℕ) {words : ℕ} → Lent n ts words → (length ts ≡ 3 * (length ts / 3)) × (length ts / 3 ≤ 2 * n)
+    × (0 < length ts / 3)
+whole n ts L = omega (arith, L .triangles, L .least)
+
+-- where row 3 finds nothing every corner has a vertex, and what stands past the end reads as one
+small : (n : ℕ) (ts : List ℕ) → 3 ≤ n → row3 ts n ≡ false → (d : ℕ) → org ts d < n
+unfolding org
+small n ts h e d =
+    elim (decLt d (length ts)) [
+      | yes l ↦ row3-means ts n .0 e d l
+      | no l ↦ let p : length ts ≤ d = omega arith in rw (List·getD-eq-default ts 0 p) (omega arith)
+    ]
+
+pub has-room : (n : ℕ) (ts : List ℕ) (words : ℕ) → Lent n ts words → row3 ts n ≡ false → Room ts words
+has-room n ts words L e = let w = whole n ts L in room n (length ts / 3) words ts (small n ts (L .least) e) (w .0) (w .1) (L .room)
+
+pub can-fill : (n : ℕ) (ts : List ℕ) (s s₁ : List ℤ) → Lent n ts (length s) → row3 ts n ≡ false → length s₁ ≡ length s →
+    tablesOf s₁ ≡ withOp (tablesOf s .op) blank → Filling ts s₁
+can-fill n ts s s₁ L e l b =
+    record {
+      space = rw l (has-room n ts (length s) L e);
+      count = rw b (blank-counts ts (tablesOf s .op));
+      heads = rw b (blank-heads ts (tablesOf s .op));
+      few = omega (arith, L .triangles, L .most);
+    }
+
+-- whole triangles, and few
+pub can-test : (n : ℕ) (ts : List ℕ) (words : ℕ) → Lent n ts words → (length ts % 3 ≡ 0) × (length ts < 2 ^ 62)
+can-test n ts words L = omega (arith, whole n ts L .0, L .triangles, L .most)
+
+pub has-marks : (n : ℕ) (ts : List ℕ) (words : ℕ) → Lent n ts words → Marks (length ts / 3) words × (0 < length ts / 3)
+has-marks n ts words L =
+    let w = whole n ts L in
+    (record { at = λ t h. omega (arith, L .room, w .1); few = omega (arith, L .most, w .1) }, w .2)
+
+-- ---- rows 5 and 6
+
+-- the lists are there, and no mark yet
+record Listed (ts : List ℕ) (t : Tables) : Type 0 where
+  buckets : Bucketed ts t
+  heads : Headed ts t
+  marks : Before 0 (t .mark)
+
+module _ (n : ℕ) (ts : List ℕ) (words : ℕ) (L : Lent n ts words) (none3 : row3 ts n ≡ false) (s s₁ s₂ : List ℤ)
+    (b : tablesOf s₁ ≡ withOp (tablesOf s .op) blank)
+    (f : tablesOf s₂ ≡ fill ts (length ts) (tablesOf s₁)) where
+  listed : Listed ts (tablesOf s₂)
+  unfolding withOp blank
+  listed =
+      let op = tablesOf s .op in
+      let v : tablesOf s₂ ≡ fill ts (length ts) (withOp op blank) = f ∙ ap (λ (t : Tables). fill ts (length ts) t) b in
+      rw v record {
+        buckets = fill-buckets ts op;
+        heads = fill-heads ts (length ts) (withOp op blank) (omega arith) (blank-heads ts op);
+        marks = λ x. rw (ap (λ (g : ℕ → ℕ). g x) (fill-mark ts (length ts) (withOp op blank))) (omega arith);
+      }
+
+  pub can-match : length s₂ ≡ words → Ready ts s₂ n
+  can-match l = record {
+    space = rw l (has-room n ts words L none3);
+    small = omega (arith, L .most);
+    heads = λ v. omega (arith, listed .heads v, L .triangles, L .most);
+  }
+
+  told : Told ts (joinedAll ts n (tablesOf s₂))
+  told =
+      joinAll-told ts (length ts / 3) (whole n ts L .0) (omega (arith, L .triangles, L .most)) n (small n ts (L .least) none3) (tablesOf s₂)
+      (listed .buckets) (tablesOf s₂ .mark) (listed .marks)
+
+  -- what the number says of rows 5 and 6; where they find nothing the opposites are there
+  module _ (none4 : row4 ts ≡ false) (s₃ : List ℤ) (r : ℕ) (M : AllMatched ts n s₂ s₃ r) where
+    pub refuse5 : r ≡ 5 → firstRefusal (meshRows n ts) ≡ some 5
+    refuse5 e = go told
+      where
+        go : Told ts (joinedAll ts n (tablesOf s₂)) → firstRefusal (meshRows n ts) ≡ some 5
+        go (twice q f5) = mesh-5 n ts none3 none4 f5
+        go (lacking q n5 f6) = absurd (omega (arith, M .row))
+        go (paired q n5 n6 o) = absurd (omega (arith, M .row))
+
+    pub refuse6 : r ≡ 6 → firstRefusal (meshRows n ts) ≡ some 6
+    refuse6 e = go told
+      where
+        go : Told ts (joinedAll ts n (tablesOf s₂)) → firstRefusal (meshRows n ts) ≡ some 6
+        go (twice q f5) = absurd (omega (arith, M .row))
+        go (lacking q n5 f6) = mesh-6 n ts none3 none4 n5 f6
+        go (paired q n5 n6 o) = absurd (omega (arith, M .row))
+
+    pub pairs : (r ≡ 5 → ⊥) → (r ≡ 6 → ⊥) → Paired n ts (tablesOf s₃)
+    unfolding withOp withMark
+    pairs n5 n6 = go told
+      where
+        go : Told ts (joinedAll ts n (tablesOf s₂)) → Paired n ts (tablesOf s₃)
+        go (twice q f5) = absurd (n5 (M .row ∙ q))
+        go (lacking q g5 f6) = absurd (n6 (M .row ∙ q))
+        go (paired q g5 g6 o) =
+            let R = bucketed-rooted ts (tablesOf s₂) (listed .buckets) in
+            record {
+              none3 = none3;
+              none4 = none4;
+              none5 = g5;
+              none6 = g6;
+              tables = rw (M .same (M .row ∙ q)) record {
+                opposites = o;
+                rooted = record { number = R .number; dart = R .dart };
+              };
+            }
+
+-- ---- rows 7 and 8
+
+module _ (n : ℕ) (ts : List ℕ) (words : ℕ) (L : Lent n ts words) (s : List ℤ) (P : Paired n ts (tablesOf s)) where
+  theSides : Sides n (length ts / 3) (org ts) (opp ts)
+  theSides = sides ts (length ts / 3) (whole n ts L .0) n (P .none3) (P .none4) (P .none5) (P .none6)
+
+  pub found7 : (r : Bool) → r ≡ someRingBroken (tablesOf s) n 0 → r ≡ row7 ts n
+  found7 r e =
+      e ∙ someRingBroken-is ts (length ts / 3) (whole n ts L .0) n theSides (tablesOf s) (P .tables .rooted) (P .tables .opposites)
+
+  pub refuse7 : (r : Bool) → r ≡ someRingBroken (tablesOf s) n 0 → r ≡ true → firstRefusal (meshRows n ts) ≡ some 7
+  refuse7 r e t = mesh-7 n ts (P .none3) (P .none4) (P .none5) (P .none6) (sym (found7 r e) ∙ t)
+
+  module _ (s′ : List ℤ) (r : Bool) (S : Split (length ts / 3) s s′ r) where
+    found8 : r ≡ row8 ts
+    found8 =
+        let w = whole n ts L in
+        S .found
+        ∙ explore-is ts n theSides (tablesOf s .op) (λ e h. P .tables .opposites e (omega (arith, w .0))) (S .mark) (w .2) (S .zeros)
+
+    pub refuse8 : (q : Bool) → q ≡ someRingBroken (tablesOf s) n 0 → q ≡ false → r ≡ true → firstRefusal (meshRows n ts) ≡ some 8
+    refuse8 q e f t = mesh-8 n ts (P .none3) (P .none4) (P .none5) (P .none6) (sym (found7 q e) ∙ f) (sym found8 ∙ t)
+
+    pub accept : (q : Bool) → q ≡ someRingBroken (tablesOf s) n 0 → q ≡ false → r ≡ false → (d : ℕ) → d ≡ length ts →
+        Accepting n ts (tablesOf s′) d
+    unfolding withMark
+    accept q e f t d l = record {
+      clean = clean-refusal n ts record {
+        clean3 = P .none3;
+        clean4 = P .none4;
+        clean5 = P .none5;
+        clean6 = P .none6;
+        clean7 = sym (found7 q e) ∙ f;
+        clean8 = sym found8 ∙ t;
+      };
+      darts = l;
+      tables = rw (S .same) record {
+        opposites = P .tables .opposites;
+        rooted = record { number = P .tables .rooted .number; dart = P .tables .rooted .dart };
+      };
+    }
+
+-- ---- an answer taken apart
+
+pub said-refused : (n : ℕ) (ts : List ℕ) (s : List ℤ) (r : MeshAnswer) (k : ℕ) → r ≡ Refused k → SidesPaired n ts s r → Examined n ts s r
+said-refused n ts s r k e S = let p : SidesPaired n ts s (Refused k) = rw e at S in rw e p
+
+pub said-paired : (n : ℕ) (ts : List ℕ) (s : List ℤ) (r : MeshAnswer) (d : ℕ) → r ≡ Accepted d → SidesPaired n ts s r →
+    Paired n ts (tablesOf s) × (d ≡ length ts)
+said-paired n ts s r d e S = rw e at S
+
+-- ---- what the calls that go on from here have: an accepted mesh, and so a sphere
+
+pub accepting-mesh : {n : ℕ} {ts : List ℕ} {words : ℕ} {t : Tables} {d : ℕ} → Lent n ts words → Accepting n ts t d → AcceptedMesh n ts
+accepting-mesh {n} L A = (range-row1 mostVertices n (L .least) (L .most), L .triangles, A .clean)
+
+pub accepting-sphere : {n : ℕ} {ts : List ℕ} {words : ℕ} {t : Tables} {d : ℕ} → Lent n ts words → Accepting n ts t d
+    → Sphere n (length ts / 3) (org ts) (opp ts)
+accepting-sphere {n} {ts} L A = accepted-sphere n ts (accepting-mesh L A)

@@ -1,0 +1,66 @@
+-- `mesh_connectivity::flood_fill` meets its contract. The loop's invariant: the triangles that are left from here on give what all give. Assumes nothing.
+use Prim.Native.Nat.{_-_}
+use native.Mathlib.Omega.{arith}
+use Rattle.mesh_connectivity.specs.FloodFillLoops.{Exploring, exploring-start, exploring-next, explored-empty, explored-all, marks-same}
+use Rattle.mesh_connectivity.proofs.flood_fill.Statement.{statement}
+use Rattle.mesh_connectivity.proofs.flood_fill.Tie as tie
+
+abbrev Inv-loop : tie.InvT-loop
+Inv-loop s₀ m top₀ i₀ s top i = Exploring m s₀ s top i
+
+abbrev μ-loop : tie.MeasureT-loop
+μ-loop s₀ m top₀ i₀ s top i = m - i
+
+loop-holds : tie.Need-loop-holds Inv-loop μ-loop
+loop-holds c = exploring-start (c .args .m) (c .args .s .now)
+
+same-length : tie.Need-same-length Inv-loop μ-loop
+same-length c = c .before .before .loop .inv .long
+
+returns : tie.Need-returns Inv-loop μ-loop
+returns c = explored-empty (c .before .before .before .args .m) (c .before .before .before .args .s .now) (c .before .before .loop .s)
+    (c .before .before .loop .top) (c .before .before .loop .i) (c .before .loop-test .taken) (c .if1 .taken) (c .before .before .loop .inv)
+
+pop-triangle-requires : tie.Need-pop-triangle-requires Inv-loop μ-loop
+pop-triangle-requires c κs = (
+  marks-same (c .before .before .before .before .args .m) (c .before .before .before .loop .inv .long) (c .before .before .before .before .pre),
+  omega (arith, c .before .if1 .left),
+  c .before .before .before .loop .inv .small,
+)
+
+add-i : tie.Need-add-i Inv-loop μ-loop
+add-i c = omega (arith, c .before .before .before .before .loop-test .taken, c .before .before .before .before .before .before .fits .m)
+
+loop-less : tie.Need-loop-less Inv-loop μ-loop
+loop-less c = omega (arith, c .before .before .before .before .loop-test .taken)
+
+loop-again : tie.Need-loop-again Inv-loop μ-loop
+loop-again c =
+    exploring-next (c .before .before .before .before .before .before .args .m) (c .before .before .before .before .before .before .args .s .now)
+    (c .before .before .before .before .before .loop .s) (c .before .pop-triangle .last .0) (c .before .before .before .before .before .loop .top)
+    (c .before .pop-triangle .result) (c .before .before .before .before .before .loop .i)
+    (c .before .before .before .before .loop-test .taken) (c .before .before .before .if1 .left) (c .before .pop-triangle .kept .0)
+    (c .before .pop-triangle .ensures .0) (c .before .pop-triangle .ensures .1) (c .before .before .before .before .before .loop .inv)
+
+same-length-2 : tie.Need-same-length-2 Inv-loop μ-loop
+same-length-2 c = c .before .loop .inv .long
+
+returns-2 : tie.Need-returns-2 Inv-loop μ-loop
+returns-2 c = explored-all (c .before .before .args .m) (c .before .before .args .s .now) (c .before .loop .s) (c .before .loop .top) (c .before .loop .i)
+    (c .loop-test .left) (c .before .loop .inv)
+
+pub flood-fill-spec : {M : Type 1} → statement M
+flood-fill-spec =
+    tie.close
+    (tie.spec
+    Inv-loop
+    μ-loop
+    loop-holds
+    same-length
+    returns
+    pop-triangle-requires
+    add-i
+    loop-less
+    loop-again
+    same-length-2
+    returns-2)

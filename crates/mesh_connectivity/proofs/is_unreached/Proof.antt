@@ -1,0 +1,19 @@
+-- `mesh_connectivity::is_unreached` meets its contract: the tests are the definition's. Assumes nothing.
+use Rattle.scratch_tables.specs.Tables.{tablesOf}
+use Rattle.mesh_connectivity.specs.FloodFillLoops.{new-within, new-past}
+use borrow.Author.Needs.{needs}
+use Rattle.mesh_connectivity.proofs.is_unreached.Statement.{statement}
+use Rattle.mesh_connectivity.proofs.is_unreached.Tie as tie
+
+get-mark-requires : tie.Need-get-mark-requires
+get-mark-requires c κs = search needs
+
+returns : tie.Need-returns
+returns c = new-within (c .before .before .args .m) (c .before .before .args .t) (c .get-mark .result) (tablesOf (c .before .before .args .s .now) .mark)
+    (c .before .if1 .taken) (c .get-mark .ensures .0)
+
+returns-2 : tie.Need-returns-2
+returns-2 c = new-past (c .before .args .m) (c .before .args .t) (tablesOf (c .before .args .s .now) .mark) (c .if1 .left)
+
+pub is-unreached-spec : {M : Type 1} → statement M
+is-unreached-spec = tie.close (tie.spec get-mark-requires returns returns-2)

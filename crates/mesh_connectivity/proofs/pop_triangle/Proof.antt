@@ -1,0 +1,95 @@
+-- `mesh_connectivity::pop_triangle` meets its contract, from those of the three visits. Assumes nothing.
+use Prim.Native.Nat.{_-_}
+use native.Mathlib.Omega.{arith}
+use mathlib.Core.Path.{refl, _∙_, ap}
+use Rattle.mesh_connectivity.specs.FloodFillLoops.{moved-leave, moved-out, marks-same}
+use borrow.Author.Needs.{needs}
+use Rattle.mesh_connectivity.proofs.pop_triangle.Statement.{statement}
+use Rattle.mesh_connectivity.proofs.pop_triangle.Tie as tie
+
+sub-t : tie.Need-sub-t
+sub-t c = search needs
+
+get-mark-requires : tie.Need-get-mark-requires
+get-mark-requires c κs = search needs
+
+predecessor-requires : tie.Need-predecessor-requires
+predecessor-requires c κs = search needs
+
+mul-push-neighbour : tie.Need-mul-push-neighbour
+mul-push-neighbour c = search needs
+
+push-neighbour-requires : tie.Need-push-neighbour-requires
+push-neighbour-requires c κs = search needs
+
+mul-push-neighbour-2 : tie.Need-mul-push-neighbour-2
+mul-push-neighbour-2 c = search needs
+
+add-push-neighbour : tie.Need-add-push-neighbour
+add-push-neighbour c = search needs
+
+push-neighbour-requires-2 : tie.Need-push-neighbour-requires-2
+push-neighbour-requires-2 c κs = (
+  marks-same (c .before .before .before .before .before .before .before .before .args .m) (c .before .before .push-neighbour .kept .0)
+      (c .before .before .before .before .before .before .before .before .pre .0),
+  c .before .before .push-neighbour .ensures .1,
+)
+
+mul-push-neighbour-3 : tie.Need-mul-push-neighbour-3
+mul-push-neighbour-3 c = search needs
+
+add-push-neighbour-2 : tie.Need-add-push-neighbour-2
+add-push-neighbour-2 c = search needs
+
+push-neighbour-requires-3 : tie.Need-push-neighbour-requires-3
+push-neighbour-requires-3 c κs = (
+  marks-same (c .before .before .before .before .before .before .before .before .before .before .before .args .m)
+      (c .before .before .push-neighbour2 .kept .0 ∙ c .before .before .before .before .before .push-neighbour .kept .0)
+      (c .before .before .before .before .before .before .before .before .before .before .before .pre .0),
+  c .before .before .push-neighbour2 .ensures .1,
+)
+
+same-length : tie.Need-same-length
+same-length c = search needs
+
+returns : tie.Need-returns
+returns c = (
+  moved-leave (c .before .before .before .before .before .before .before .before .before .before .before .before .before .args .s .now)
+      (c .before .before .before .before .before .before .before .push-neighbour .last .0) (c .before .before .before .before .push-neighbour2 .last .0)
+      (c .before .push-neighbour3 .last .0)
+      (c .before .before .before .before .before .before .before .before .before .before .before .before .before .args .m)
+      (c .before .before .before .before .before .before .before .before .before .before .before .before .before .args .top - 1)
+      (c .before .before .before .before .before .before .before .before .before .before .before .before .before .args .top)
+      (c .before .before .before .before .before .before .before .before .before .predecessor .result)
+      (c .before .before .before .before .before .before .before .push-neighbour .result) (c .before .before .before .before .push-neighbour2 .result)
+      (c .before .push-neighbour3 .result)
+      (c .before .before .before .before .before .before .before .before .before .before .before .before .before .pre .1) refl
+      (c .before .before .before .before .before .before .before .before .before .before .before .before .if1 .taken)
+      (c .before .before .before .before .before .before .before .before .before .predecessor .ensures
+      ∙ ap (λ x. x - 1) (c .before .before .before .before .before .before .before .before .before .before .get-mark .ensures .0))
+      (c .before .before .before .before .before .before .before .push-neighbour .ensures .0) (c .before .before .before .before .push-neighbour2 .ensures .0)
+      (c .before .push-neighbour3 .ensures .0),
+  c .before .push-neighbour3 .ensures .1,
+)
+
+returns-2 : tie.Need-returns-2
+returns-2 c = (moved-out (c .before .args .s .now) (c .before .args .m) (c .before .args .top - 1) (c .before .args .top) refl (c .if1 .left), omega arith)
+
+pub pop-triangle-spec : {M : Type 1} → statement M
+pop-triangle-spec =
+    tie.close
+    (tie.spec
+    sub-t
+    get-mark-requires
+    predecessor-requires
+    mul-push-neighbour
+    push-neighbour-requires
+    mul-push-neighbour-2
+    add-push-neighbour
+    push-neighbour-requires-2
+    mul-push-neighbour-3
+    add-push-neighbour-2
+    push-neighbour-requires-3
+    same-length
+    returns
+    returns-2)

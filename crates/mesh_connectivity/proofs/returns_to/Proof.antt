@@ -1,0 +1,65 @@
+-- `mesh_connectivity::returns_to` meets its contract. The loop's invariant: the rotations from d on find what all rotations find. Assumes nothing.
+use Prim.Native.Nat.{_-_}
+use native.Mathlib.Omega.{arith}
+use mathlib.Core.Path.{ap, _∙_}
+use Rattle.scratch_tables.specs.Tables.{tablesOf}
+use Rattle.mesh_connectivity.specs.RingLoops.{Rotating, rotating-start, rotating-back, rotating-next, rotating-none}
+use Rattle.mesh_connectivity.proofs.returns_to.Statement.{statement}
+use Rattle.mesh_connectivity.proofs.returns_to.Tie as tie
+
+abbrev Inv-loop : tie.InvT-loop
+Inv-loop s h k d₀ i₀ d i = Rotating (tablesOf s .op) h k d i
+
+abbrev μ-loop : tie.MeasureT-loop
+μ-loop s h k d₀ i₀ d i = k - i
+
+loop-holds : tie.Need-loop-holds Inv-loop μ-loop
+loop-holds c = rotating-start (tablesOf (c .args .s .now) .op) (c .args .h) (c .args .k) (c .pre)
+
+prev-dart-requires : tie.Need-prev-dart-requires Inv-loop μ-loop
+prev-dart-requires c κs = c .before .loop .inv .small
+
+get-op-requires : tie.Need-get-op-requires Inv-loop μ-loop
+get-op-requires c κs = tt
+
+returns : tie.Need-returns Inv-loop μ-loop
+returns c =
+    let op = tablesOf (c .before .before .before .before .before .args .s .now) .op in
+    rotating-back op (c .before .before .before .before .before .args .h) (c .before .before .before .before .before .args .k)
+    (c .before .before .before .before .loop .d) (c .before .get-op .result) (c .before .before .before .before .loop .i)
+    (c .before .before .before .loop-test .taken)
+    (c .before .get-op .ensures .0 ∙ ap op (c .before .before .prev-dart .ensures)) (c .if1 .taken) (c .before .before .before .before .loop .inv)
+
+add-i : tie.Need-add-i Inv-loop μ-loop
+add-i c = omega (arith, c .before .before .before .loop-test .taken, c .before .before .before .before .before .fits .k)
+
+loop-less : tie.Need-loop-less Inv-loop μ-loop
+loop-less c = omega (arith, c .before .before .before .loop-test .taken)
+
+loop-again : tie.Need-loop-again Inv-loop μ-loop
+loop-again c =
+    let op = tablesOf (c .before .before .before .before .before .args .s .now) .op in
+    rotating-next op (c .before .before .before .before .before .args .h) (c .before .before .before .before .before .args .k)
+    (c .before .before .before .before .loop .d) (c .before .get-op .result) (c .before .before .before .before .loop .i)
+    (c .before .before .before .loop-test .taken)
+    (c .before .get-op .ensures .0 ∙ ap op (c .before .before .prev-dart .ensures)) (c .if1 .left) (c .before .get-op .ensures .1)
+    (c .before .before .before .before .loop .inv)
+
+returns-2 : tie.Need-returns-2 Inv-loop μ-loop
+returns-2 c = rotating-none (tablesOf (c .before .before .args .s .now) .op) (c .before .before .args .h) (c .before .before .args .k) (c .before .loop .d)
+    (c .before .loop .i) (c .loop-test .left) (c .before .loop .inv)
+
+pub returns-to-spec : {M : Type 1} → statement M
+returns-to-spec =
+    tie.close
+    (tie.spec
+    Inv-loop
+    μ-loop
+    loop-holds
+    prev-dart-requires
+    get-op-requires
+    returns
+    add-i
+    loop-less
+    loop-again
+    returns-2)

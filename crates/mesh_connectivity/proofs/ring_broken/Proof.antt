@@ -1,0 +1,40 @@
+-- `mesh_connectivity::ring_broken` meets its contract: the tests are the definition's. Assumes nothing.
+use mathlib.Core.Path.{_∙_}
+use Rattle.scratch_tables.specs.Tables.{tablesOf}
+use Rattle.mesh_connectivity.specs.RingLoops.{broken-none, broken-some}
+use borrow.Author.Needs.{needs}
+use Rattle.mesh_connectivity.proofs.ring_broken.Statement.{statement}
+use Rattle.mesh_connectivity.proofs.ring_broken.Tie as tie
+
+get-count-requires : tie.Need-get-count-requires
+get-count-requires c κs = search needs
+
+returns : tie.Need-returns
+returns c = broken-none (tablesOf (c .before .before .args .s .now)) (c .before .before .args .v) (c .before .get-count .result)
+    (c .before .get-count .ensures .0) (c .if1 .taken)
+
+get-head-requires : tie.Need-get-head-requires
+get-head-requires c κs = search needs
+
+sub-returns-to : tie.Need-sub-returns-to
+sub-returns-to c = search needs
+
+returns-to-requires : tie.Need-returns-to-requires
+returns-to-requires c κs = search needs
+
+returns-2 : tie.Need-returns-2
+returns-2 c =
+    c .returns-to .ensures ∙ broken-some (tablesOf (c .before .before .before .before .args .s .now)) (c .before .before .before .before .args .v)
+    (c .before .before .before .get-count .result) (c .before .get-head .result)
+    (c .before .before .before .get-count .ensures .0) (c .before .before .if1 .left) (c .before .get-head .ensures .0)
+
+pub ring-broken-spec : {M : Type 1} → statement M
+ring-broken-spec =
+    tie.close
+    (tie.spec
+    get-count-requires
+    returns
+    get-head-requires
+    sub-returns-to
+    returns-to-requires
+    returns-2)

@@ -1,0 +1,85 @@
+-- `mesh_sides::duplicate_side` meets its contract. The loop's invariant: the vertices from v on give what all of them give. Assumes nothing.
+use Prim.Native.Nat.{_-_}
+use native.Mathlib.Omega.{arith}
+use mathlib.Core.Path.{_∙_}
+use Rattle.scratch_tables.specs.Tables.{tablesOf}
+use Rattle.mesh_sides.specs.Room.{ready-at}
+use Rattle.mesh_sides.specs.LoopInvariants.{mark-heads, Scanning, scanning-start, scanning-found, scanning-next, scanning-none, marked-as}
+use Rattle.mesh_sides.proofs.duplicate_side.Statement.{statement}
+use Rattle.mesh_sides.proofs.duplicate_side.Tie as tie
+
+abbrev Inv-loop : tie.InvT-loop
+Inv-loop u n triangles s₀ v₀ s v = Scanning triangles u n s₀ s v
+
+abbrev μ-loop : tie.MeasureT-loop
+μ-loop u n triangles s₀ v₀ s v = n - v
+
+loop-holds : tie.Need-loop-holds Inv-loop μ-loop
+loop-holds c = scanning-start (c .before .args .triangles .now) (c .before .args .u) (c .before .args .n) (c .before .args .s .now)
+
+mark-outgoing-requires : tie.Need-mark-outgoing-requires Inv-loop μ-loop
+mark-outgoing-requires c κs =
+    let R = c .before .before .before .before .pre in
+    let s = c .before .before .loop .s in
+    let v = c .before .before .loop .v in
+    let I = c .before .before .loop .inv in (
+      ready-at s v R (c .before .loop-test .taken) (I .long),
+      rw (mark-heads (c .before .before .before .before .args .s .now) s (tablesOf s .mark) (I .same)) (R .heads v),
+    )
+
+same-length : tie.Need-same-length Inv-loop μ-loop
+same-length c = c .before .before .mark-outgoing .kept .1 .0 ∙ c .before .before .before .before .before .loop .inv .long
+
+returns : tie.Need-returns Inv-loop μ-loop
+returns c =
+    let M = marked-as (c .before .before .before .before .before .before .before .args .triangles .now) (c .before .before .before .before .before .loop .s)
+    (c .before .before .mark-outgoing .last .1 .0) (c .before .before .before .before .before .loop .v) (c .before .before .mark-outgoing .result)
+    (c .if1 .taken) (c .before .before .mark-outgoing .ensures) in
+    scanning-found (c .before .before .before .before .before .before .before .args .triangles .now)
+    (c .before .before .before .before .before .before .before .args .u) (c .before .before .before .before .before .before .before .args .n)
+    (c .before .before .before .before .before .before .before .args .s .now) (c .before .before .before .before .before .loop .s)
+    (c .before .before .mark-outgoing .last .1 .0) (c .before .before .before .before .before .loop .v)
+    (c .before .before .before .before .loop-test .taken) M (c .before .before .before .before .before .loop .inv)
+
+add-v : tie.Need-add-v Inv-loop μ-loop
+add-v c = omega (arith, c .before .before .before .before .loop-test .taken)
+
+loop-less : tie.Need-loop-less Inv-loop μ-loop
+loop-less c = omega (arith, c .before .before .before .before .loop-test .taken)
+
+loop-again : tie.Need-loop-again Inv-loop μ-loop
+loop-again c =
+    let M = marked-as (c .before .before .before .before .before .before .before .args .triangles .now) (c .before .before .before .before .before .loop .s)
+    (c .before .before .mark-outgoing .last .1 .0) (c .before .before .before .before .before .loop .v) (c .before .before .mark-outgoing .result)
+    (c .if1 .left) (c .before .before .mark-outgoing .ensures) in
+    scanning-next (c .before .before .before .before .before .before .before .args .triangles .now)
+    (c .before .before .before .before .before .before .before .args .u) (c .before .before .before .before .before .before .before .args .n)
+    (c .before .before .before .before .before .before .before .args .s .now) (c .before .before .before .before .before .loop .s)
+    (c .before .before .mark-outgoing .last .1 .0) (c .before .before .before .before .before .loop .v)
+    (c .before .before .before .before .loop-test .taken) (c .before .before .mark-outgoing .kept .1 .0) M
+    (c .before .before .before .before .before .loop .inv)
+
+same-length-2 : tie.Need-same-length-2 Inv-loop μ-loop
+same-length-2 c = c .before .loop .inv .long
+
+returns-2 : tie.Need-returns-2 Inv-loop μ-loop
+returns-2 c =
+    scanning-none (c .before .before .before .args .triangles .now) (c .before .before .before .args .u) (c .before .before .before .args .n)
+    (c .before .before .before .args .s .now) (c .before .loop .s) (c .before .loop .v)
+    (c .loop-test .left) (c .before .loop .inv)
+
+pub duplicate-side-spec : {M : Type 1} → statement M
+duplicate-side-spec =
+    tie.close
+    (tie.spec
+    Inv-loop
+    μ-loop
+    loop-holds
+    mark-outgoing-requires
+    same-length
+    returns
+    add-v
+    loop-less
+    loop-again
+    same-length-2
+    returns-2)

@@ -1,0 +1,66 @@
+-- `mesh_sides::fill_incidence_lists` meets its contract. The loop's invariant: filling from d down gives what filling from the last dart down gives. Assumes
+-- nothing.
+use Prim.Native.Nat.{suc, _-_}
+use native.Mathlib.Omega.{arith}
+use mathlib.Core.Path.{_≡_, refl}
+use Rattle.mesh_model.specs.IncidenceLists.{fill}
+use Rattle.mesh_sides.specs.LoopInvariants.{Filled, filled-next}
+use Rattle.mesh_sides.proofs.fill_incidence_lists.Statement.{statement}
+use Rattle.mesh_sides.proofs.fill_incidence_lists.Tie as tie
+
+abbrev Inv-loop : tie.InvT-loop
+Inv-loop triangles s₀ d₀ s d = Filled triangles s₀ s d
+
+abbrev μ-loop : tie.MeasureT-loop
+μ-loop triangles s₀ d₀ s d = d
+
+loop-holds : tie.Need-loop-holds Inv-loop μ-loop
+loop-holds c = record { long = refl; low = omega arith; count = c .before .pre .count; heads = c .before .pre .heads; rest = refl }
+
+sub-d : tie.Need-sub-d Inv-loop μ-loop
+sub-d c = omega arith
+
+push-dart-requires : tie.Need-push-dart-requires Inv-loop μ-loop
+push-dart-requires c κs =
+    let I = c .before .before .loop .inv in
+    let z : suc (c .before .before .loop .d - 1) ≡ c .before .before .loop .d = omega (arith, c .before .loop-test .taken) in
+    record {
+      space = rw (I .long) (c .before .before .before .before .pre .space);
+      dart = omega (arith, I .low, c .before .loop-test .taken);
+      count = rw z (I .count);
+      heads = I .heads;
+      few = c .before .before .before .before .pre .few;
+    }
+
+loop-less : tie.Need-loop-less Inv-loop μ-loop
+loop-less c = omega (arith, c .before .before .before .loop-test .taken)
+
+loop-again : tie.Need-loop-again Inv-loop μ-loop
+loop-again c =
+    filled-next (c .before .before .before .before .before .before .args .triangles .now) (c .before .before .before .before .before .before .args .s .now)
+    (c .before .before .before .before .loop .s) (c .before .push-dart .last .1 .0) (c .before .before .before .before .loop .d)
+    (c .before .before .before .loop-test .taken) (c .before .push-dart .kept .1 .0) (c .before .push-dart .ensures)
+    (c .before .before .before .before .loop .inv)
+
+same-length : tie.Need-same-length Inv-loop μ-loop
+same-length c = c .before .loop .inv .long
+
+returns : tie.Need-returns Inv-loop μ-loop
+unfolding fill
+returns c =
+    let z : c .before .loop .d ≡ 0 = omega (arith, c .loop-test .left) in
+    rw z at (c .before .loop .inv .rest)
+
+pub fill-incidence-lists-spec : {M : Type 1} → statement M
+fill-incidence-lists-spec =
+    tie.close
+    (tie.spec
+    Inv-loop
+    μ-loop
+    loop-holds
+    sub-d
+    push-dart-requires
+    loop-less
+    loop-again
+    same-length
+    returns)

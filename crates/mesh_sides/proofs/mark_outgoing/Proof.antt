@@ -1,0 +1,110 @@
+-- `mesh_sides::mark_outgoing` meets its contract. The loop's invariant: the walk from e on gives what the whole walk gives. Assumes nothing.
+use Prim.Native.Nat.{_-_}
+use native.Mathlib.Omega.{arith}
+use mathlib.Core.Path.{_∙_}
+use Rattle.mesh_sides.specs.Room.{prev-small}
+use Rattle.mesh_sides.specs.LoopInvariants.{Marking, marking-start, marking-next, marked-found, marked-none}
+use Rattle.mesh_sides.proofs.mark_outgoing.Statement.{statement}
+use Rattle.mesh_sides.proofs.mark_outgoing.Tie as tie
+
+abbrev Inv-loop : tie.InvT-loop
+Inv-loop triangles s₀ v k h e₀ i₀ s e i = Marking triangles s₀ v k h s e i
+
+abbrev μ-loop : tie.MeasureT-loop
+μ-loop triangles s₀ v k h e₀ i₀ s e i = k - i
+
+get-count-requires : tie.Need-get-count-requires Inv-loop μ-loop
+get-count-requires c κs = tt
+
+get-head-requires : tie.Need-get-head-requires Inv-loop μ-loop
+get-head-requires c κs = tt
+
+prev-dart-requires : tie.Need-prev-dart-requires Inv-loop μ-loop
+prev-dart-requires c κs = c .get-head .ensures .1
+
+loop-holds : tie.Need-loop-holds Inv-loop μ-loop
+loop-holds c = marking-start (c .before .before .before .before .before .before .args .triangles .now)
+    (c .before .before .before .before .before .before .args .s .now) (c .before .before .before .before .before .before .args .v)
+    (c .before .before .before .get-count .result) (c .before .get-head .result) (c .prev-dart .result) (c .prev-dart .ensures)
+    (prev-small (c .before .get-head .result) (c .prev-dart .result) (c .prev-dart .ensures)
+    (omega (arith, c .before .get-head .ensures .0, c .before .before .before .before .before .before .pre .1)))
+
+mark-neighbour-requires : tie.Need-mark-neighbour-requires Inv-loop μ-loop
+mark-neighbour-requires c κs = (
+  rw (c .before .before .loop .inv .long) (c .before .before .before .before .before .before .before .before .before .pre .0),
+  c .before .before .loop .inv .small,
+)
+
+same-length : tie.Need-same-length Inv-loop μ-loop
+same-length c = c .before .before .mark-neighbour .kept .1 .0 ∙ c .before .before .before .before .before .loop .inv .long
+
+returns : tie.Need-returns Inv-loop μ-loop
+returns c = marked-found (c .before .before .before .before .before .before .before .before .before .before .before .before .args .triangles .now)
+    (c .before .before .before .before .before .before .before .before .before .before .before .before .args .s .now)
+    (c .before .before .before .before .before .before .before .before .before .before .before .before .args .v)
+    (c .before .before .before .before .before .before .before .before .before .get-count .result)
+    (c .before .before .before .before .before .before .before .get-head .result)
+    (c .before .before .before .before .before .loop .s) (c .before .before .mark-neighbour .last .1 .0) (c .before .before .before .before .before .loop .e)
+    (c .before .before .before .before .before .loop .i) (c .before .before .mark-neighbour .result)
+    (c .before .before .before .before .before .before .before .before .before .get-count .ensures .0)
+    (c .before .before .before .before .before .before .before .get-head .ensures .0)
+    (c .before .before .before .before .loop-test .taken) (c .if1 .taken) (c .before .before .mark-neighbour .ensures)
+    (c .before .before .before .before .before .loop .inv)
+
+get-op-requires : tie.Need-get-op-requires Inv-loop μ-loop
+get-op-requires c κs = tt
+
+add-i : tie.Need-add-i Inv-loop μ-loop
+add-i c = omega (
+  arith,
+  c .before .before .before .before .before .before .loop-test .taken,
+  c .before .before .before .before .before .before .before .before .before .before .before .get-count .ensures .1,
+)
+
+loop-less : tie.Need-loop-less Inv-loop μ-loop
+loop-less c = omega (arith, c .before .before .before .before .before .before .loop-test .taken)
+
+loop-again : tie.Need-loop-again Inv-loop μ-loop
+loop-again c =
+    marking-next (c .before .before .before .before .before .before .before .before .before .before .before .before .before .before .args .triangles .now)
+    (c .before .before .before .before .before .before .before .before .before .before .before .before .before .before .args .s .now)
+    (c .before .before .before .before .before .before .before .before .before .before .before .before .before .before .args .v)
+    (c .before .before .before .before .before .before .before .before .before .before .before .get-count .result)
+    (c .before .before .before .before .before .before .before .before .before .get-head .result)
+    (c .before .before .before .before .before .before .before .loop .s) (c .before .before .before .before .mark-neighbour .last .1 .0)
+    (c .before .before .before .before .before .before .before .loop .e) (c .get-op .result)
+    (c .before .before .before .before .before .before .before .loop .i) (c .before .before .before .before .mark-neighbour .result)
+    (c .before .before .before .before .before .before .loop-test .taken) (c .before .before .if1 .left)
+    (c .before .before .before .before .mark-neighbour .kept .1 .0) (c .before .before .before .before .mark-neighbour .ensures) (c .get-op .ensures .0)
+    (c .get-op .ensures .1) (c .before .before .before .before .before .before .before .loop .inv)
+
+same-length-2 : tie.Need-same-length-2 Inv-loop μ-loop
+same-length-2 c = c .before .loop .inv .long
+
+returns-2 : tie.Need-returns-2 Inv-loop μ-loop
+returns-2 c = marked-none (c .before .before .before .before .before .before .before .before .args .triangles .now)
+    (c .before .before .before .before .before .before .before .before .args .s .now)
+    (c .before .before .before .before .before .before .before .before .args .v) (c .before .before .before .before .before .get-count .result)
+    (c .before .before .before .get-head .result)
+    (c .before .loop .s) (c .before .loop .e) (c .before .loop .i) (c .before .before .before .before .before .get-count .ensures .0)
+    (c .before .before .before .get-head .ensures .0) (c .loop-test .left) (c .before .loop .inv)
+
+pub mark-outgoing-spec : {M : Type 1} → statement M
+mark-outgoing-spec =
+    tie.close
+    (tie.spec
+    Inv-loop
+    μ-loop
+    get-count-requires
+    get-head-requires
+    prev-dart-requires
+    loop-holds
+    mark-neighbour-requires
+    same-length
+    returns
+    get-op-requires
+    add-i
+    loop-less
+    loop-again
+    same-length-2
+    returns-2)

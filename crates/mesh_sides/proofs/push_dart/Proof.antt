@@ -1,0 +1,113 @@
+-- `mesh_sides::push_dart` meets its contract: there is room for the three stores, and they are the definition's. Assumes nothing.
+use native.Mathlib.Omega.{arith}
+use Rattle.mesh_sides.specs.Room.{pushed, prev-small}
+use borrow.Author.Needs.{needs}
+use Rattle.mesh_sides.proofs.push_dart.Statement.{statement}
+use Rattle.mesh_sides.proofs.push_dart.Tie as tie
+
+origin-requires : tie.Need-origin-requires
+origin-requires c κs = search needs
+
+get-head-requires : tie.Need-get-head-requires
+get-head-requires c κs = search needs
+
+get-count-requires : tie.Need-get-count-requires
+get-count-requires c κs = search needs
+
+prev-dart-requires : tie.Need-prev-dart-requires
+prev-dart-requires c κs = search needs
+
+prev-dart-requires-2 : tie.Need-prev-dart-requires-2
+prev-dart-requires-2 c κs = c .before .before .before .before .get-head .ensures .1
+
+set-op-requires : tie.Need-set-op-requires
+set-op-requires c κs = (
+  omega (
+    arith,
+    c .before .prev-dart .ensures,
+    c .before .before .before .before .before .before .before .before .before .pre .space .link
+        (c .before .before .before .before .before .before .before .before .before .args .d)
+        (c .before .before .before .before .before .before .before .before .before .pre .dart),
+  ),
+  prev-small (c .before .before .before .before .before .get-head .result) (c .prev-dart2 .result) (c .prev-dart2 .ensures)
+      (omega (
+        arith,
+        c .before .before .before .before .before .get-head .ensures .0,
+        c .before .before .before .before .before .before .before .before .before .pre .heads
+            (c .before .before .before .before .before .before .before .origin .result),
+        c .before .before .before .before .before .before .before .before .before .pre .few,
+      )),
+)
+
+set-head-requires : tie.Need-set-head-requires
+set-head-requires c κs = (
+  omega (
+    arith,
+    c .before .before .before .before .before .before .before .before .before .before .origin .ensures .0,
+    c .before .before .before .before .before .before .before .before .before .before .before .before .pre .space .vertex
+        (c .before .before .before .before .before .before .before .before .before .before .before .before .args .d),
+    c .before .before .set-op .kept .0,
+  ),
+  omega (
+    arith,
+    c .before .before .before .before .before .before .before .before .before .before .before .before .pre .dart,
+    c .before .before .before .before .before .before .before .before .before .before .before .before .pre .few,
+  ),
+)
+
+add-set-count : tie.Need-add-set-count
+add-set-count c = omega (arith, c .before .before .before .before .before .before .before .before .before .get-count .ensures .1)
+
+set-count-requires : tie.Need-set-count-requires
+set-count-requires c κs = (
+  omega (
+    arith,
+    c .before .before .before .before .before .before .before .before .before .before .before .before .before .origin .ensures .0,
+    c .before .before .before .before .before .before .before .before .before .before .before .before .before .before .before .pre .space .vertex
+        (c .before .before .before .before .before .before .before .before .before .before .before .before .before .before .before .args .d),
+    c .before .before .before .before .before .set-op .kept .0,
+    c .before .before .set-head .kept .0,
+  ),
+  omega (
+    arith,
+    c .before .before .before .before .before .before .before .before .before .get-count .ensures .0,
+    c .before .before .before .before .before .before .before .before .before .before .before .before .before .before .before .pre .count
+        (c .before .before .before .before .before .before .before .before .before .before .before .before .before .origin .result),
+    c .before .before .before .before .before .before .before .before .before .before .before .before .before .before .before .pre .few,
+  ),
+)
+
+same-length : tie.Need-same-length
+same-length c = search needs
+
+returns : tie.Need-returns
+returns c =
+    pushed (c .before .before .before .before .before .before .before .before .before .before .before .before .before .before .before .before .before .args .triangles .now) (c .before .before .before .before .before .before .before .before .before .before .before .before .before .before .before .before .before .args .d) (c .before .before .before .before .before .before .before .before .before .before .before .before .before .before .before .before .before .args .s .now) (c .before .before .before .before .before .before .before .set-op .last .0) (c .before .before .before .before .set-head .last .0) (c .before .set-count .last .0)
+    (c .before .before .before .before .before .before .before .before .before .before .before .before .before .before .before .origin .result)
+    (c .before .before .before .before .before .before .before .before .before .prev-dart .result)
+    (c .before .before .before .before .before .before .before .before .before .before .before .before .before .get-head .result)
+    (c .before .before .before .before .before .before .before .before .prev-dart2 .result)
+    (c .before .before .before .before .before .before .before .before .before .before .before .get-count .result)
+    (c .before .before .before .before .before .before .before .before .before .before .before .before .before .before .before .origin .ensures .0)
+    (c .before .before .before .before .before .before .before .before .before .prev-dart .ensures)
+    (c .before .before .before .before .before .before .before .before .before .before .before .before .before .get-head .ensures .0)
+    (c .before .before .before .before .before .before .before .before .prev-dart2 .ensures)
+    (c .before .before .before .before .before .before .before .before .before .before .before .get-count .ensures .0)
+    (c .before .before .before .before .before .before .before .set-op .ensures) (c .before .before .before .before .set-head .ensures)
+    (c .before .set-count .ensures)
+
+pub push-dart-spec : {M : Type 1} → statement M
+push-dart-spec =
+    tie.close
+    (tie.spec
+    origin-requires
+    get-head-requires
+    get-count-requires
+    prev-dart-requires
+    prev-dart-requires-2
+    set-op-requires
+    set-head-requires
+    add-set-count
+    set-count-requires
+    same-length
+    returns)

@@ -1,0 +1,61 @@
+-- `mesh_sides::repeated_vertex` meets its contract. The loop's invariant: from d on the test finds what it finds in all. Assumes nothing.
+use Prim.Native.Nat.{_-_, _%_}
+use native.Mathlib.Omega.{arith}
+use mathlib.Core.Path.{_≡_, sym, _∙_}
+use lib.ListN.{length}
+use Rattle.definitions.specs.Mesh.{row4, darts}
+use Rattle.laws.specs.Loops.{Seeking, seeking-start, seeking-end}
+use Rattle.mesh_sides.specs.RepeatedVertex.{loops, three-found, three-next}
+use Rattle.mesh_sides.proofs.repeated_vertex.Statement.{statement}
+use Rattle.mesh_sides.proofs.repeated_vertex.Tie as tie
+
+abbrev Inv-loop : tie.InvT-loop
+Inv-loop triangles d₀ d = (d % 3 ≡ 0) × Seeking (loops triangles) (length triangles) d
+
+abbrev μ-loop : tie.MeasureT-loop
+μ-loop triangles d₀ d = length triangles - d
+
+loop-holds : tie.Need-loop-holds Inv-loop μ-loop
+loop-holds c = (omega arith, seeking-start (loops (c .before .args .triangles .now)) (length (c .before .args .triangles .now)))
+
+repeated-at-requires : tie.Need-repeated-at-requires Inv-loop μ-loop
+repeated-at-requires c κs = (c .before .loop .inv .0, omega (arith, c .loop-test .taken, c .before .before .before .pre .1))
+
+returns : tie.Need-returns Inv-loop μ-loop
+unfolding row4 darts
+returns c = three-found (c .before .before .before .before .before .args .triangles .now) (c .before .before .before .loop .d)
+    (omega (arith, c .before .before .loop-test .taken, c .before .before .before .before .before .pre .0, c .before .before .before .loop .inv .0))
+    (c .before .before .before .loop .inv .1) (sym (c .before .repeated-at .ensures) ∙ c .if1 .taken)
+
+add-d : tie.Need-add-d Inv-loop μ-loop
+add-d c = omega (arith, c .before .before .loop-test .taken, c .before .before .before .before .before .pre .1)
+
+loop-less : tie.Need-loop-less Inv-loop μ-loop
+loop-less c = omega (arith, c .before .before .loop-test .taken)
+
+loop-again : tie.Need-loop-again Inv-loop μ-loop
+loop-again c = (
+  omega (arith, c .before .before .before .loop .inv .0),
+  three-next (c .before .before .before .before .before .args .triangles .now) (c .before .before .before .loop .d)
+      (omega (arith, c .before .before .loop-test .taken, c .before .before .before .before .before .pre .0, c .before .before .before .loop .inv .0))
+      (c .before .before .before .loop .inv .1) (sym (c .before .repeated-at .ensures) ∙ c .if1 .left),
+)
+
+returns-2 : tie.Need-returns-2 Inv-loop μ-loop
+unfolding row4 darts
+returns-2 c = seeking-end (loops (c .before .before .before .args .triangles .now)) (length (c .before .before .before .args .triangles .now))
+    (c .before .loop .d) (c .loop-test .left) (c .before .loop .inv .1)
+
+pub repeated-vertex-spec : {M : Type 1} → statement M
+repeated-vertex-spec =
+    tie.close
+    (tie.spec
+    Inv-loop
+    μ-loop
+    loop-holds
+    repeated-at-requires
+    returns
+    add-d
+    loop-less
+    loop-again
+    returns-2)

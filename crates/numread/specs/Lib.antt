@@ -1,2 +1,0 @@
--- What the readers of numbers answer. Definitions only.
-pub mod Outcome

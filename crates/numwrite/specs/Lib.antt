@@ -1,2 +1,0 @@
--- Steps of the writers of numbers.
-pub mod Steps

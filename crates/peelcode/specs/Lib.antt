@@ -1,2 +1,0 @@
--- What the code of the labels stage needs besides the definition of its work.
-pub mod Steps

@@ -1,3 +1,0 @@
--- What the repair call answers in document 01's numbers, and what it leaves.
-pub mod Told
-pub mod Call

@@ -1,0 +1,98 @@
+// The repair call: rows 1 to 8, then 9; then, while some inner triangle is flat or turned, the lowest-numbered one is raised. A raise touches the vertices that
+// it moves and the triangles on the raised one's three walks, which are at most linear in n.
+use labels_call::label_mesh;
+use mesh_check::MeshAnswer;
+use repair_loop::Ended;
+use repair_loop::repair_labelled;
+use scratch_tables::clear;
+ghost use mathlib.Core.Path.{_≡_};
+ghost use Rattle.definitions.specs.Refusals.{repairCall};
+ghost use Rattle.repair_loop.specs.Answer.{endToAnswer};
+ghost use Rattle.repair_call.specs.Answer.{repairToAnswer, refusedMesh};
+ghost use Rattle.repair_call.specs.CallOutcomes.{Fitting, Given};
+
+// repaired, with the count of raises; refused, with the number of the row; or 13, with the count so far
+pub enum RepairAnswer {
+    Repaired(usize),
+    Refused(u32),
+    Stopped(usize),
+}
+
+const MOST_VERTICES: usize = 4096;
+
+fn refusal(answer: MeshAnswer) -> RepairAnswer
+    ensures { λ r. ⌜ repairToAnswer r ≡ refusedMesh answer ⌝ }
+{
+    match answer {
+        MeshAnswer::Accepted(_) => RepairAnswer::Repaired(0),
+        MeshAnswer::Refused(number) => RepairAnswer::Refused(number),
+    }
+}
+
+fn ended(end: Ended) -> RepairAnswer
+    ensures { λ r. ⌜ repairToAnswer r ≡ endToAnswer end ⌝ }
+{
+    match end {
+        Ended::Finished(count) => RepairAnswer::Repaired(count),
+        Ended::Stopped(count) => RepairAnswer::Stopped(count),
+    }
+}
+
+// from row 3 on; nothing is said of scratch, which the call clears
+fn repair_lent(
+    n: usize,
+    triangles: &[u16],
+    weights: &mut [i64],
+    coordinates: &mut [i64],
+    s: &mut [i64],
+) -> RepairAnswer
+    requires { ⌜ Fitting n (now triangles) (now weights) (now coordinates) (now s) ⌝ }
+    ensures { λ r. ⌜ Given n (now (triangles .entry)) (now (weights .entry)) (now (coordinates .entry)) (now (s .entry)) (repairToAnswer r) (now (weights .exit)) (now (coordinates .exit)) ⌝ }
+{
+    let examined = label_mesh(n, triangles, s);
+    let MeshAnswer::Accepted(_) = examined else {
+        return refusal(examined);
+    };
+    if maps_limits::past_limit(weights) {
+        return RepairAnswer::Refused(9);
+    }
+    let end = repair_labelled(n, triangles, weights, coordinates, s);
+    ended(end)
+}
+
+// The public call. Scratch is as lent after 1 and 2, and holds zeros after every other answer. Weights and coordinates are as lent after a refusal with
+// 1 to 9; after 13 the weights are as after the last full raise, and the coordinates are theirs.
+pub fn repair(
+    n: usize,
+    triangles: &[u16],
+    weights: &mut [i64],
+    coordinates: &mut [i64],
+    scratch: &mut [i64],
+) -> RepairAnswer
+    ensures answer { λ r. ⌜ repairToAnswer r ≡ repairCall n (now (triangles .entry)) (now (weights .entry)) (now (coordinates .entry)) (now (scratch .entry)) .answer ⌝ }
+    ensures weights { λ r. ⌜ now (weights .exit) ≡ repairCall n (now (triangles .entry)) (now (weights .entry)) (now (coordinates .entry)) (now (scratch .entry)) .weights ⌝ }
+    ensures coordinates { λ r. ⌜ now (coordinates .exit) ≡ repairCall n (now (triangles .entry)) (now (weights .entry)) (now (coordinates .entry)) (now (scratch .entry)) .coordinates ⌝ }
+    ensures scratch { λ r. ⌜ now (scratch .exit) ≡ repairCall n (now (triangles .entry)) (now (weights .entry)) (now (coordinates .entry)) (now (scratch .entry)) .scratch ⌝ }
+{
+    if n < 3 {
+        return RepairAnswer::Refused(1);
+    }
+    if n > MOST_VERTICES {
+        return RepairAnswer::Refused(1);
+    }
+    if triangles.len() != 3 * (2 * n - 4) {
+        return RepairAnswer::Refused(2);
+    }
+    if scratch.len() != 24 * n {
+        return RepairAnswer::Refused(2);
+    }
+    if weights.len() != 2 * n - 5 {
+        return RepairAnswer::Refused(2);
+    }
+    if coordinates.len() != 3 * n {
+        return RepairAnswer::Refused(2);
+    }
+    let answer = repair_lent(n, triangles, weights, coordinates, scratch);
+    clear(scratch);
+    answer
+}

@@ -1,0 +1,101 @@
+-- `repair_loop::raise_all` meets its contract. The loop's invariant: the definition's loop goes on from here. The measure is the definition's fuel, which
+-- never runs out. Assumes nothing.
+use borrow.Author.Needs.{needs}
+use native.Mathlib.Omega.{arith}
+use Prim.Native.Nat.{_-_, _*_}
+use Rattle.repair_loop.specs.LoopInvariants.{start-within, start-some, Loops, loops-begin, now, can-raise, fueled, next-within, loops-again}
+use Rattle.repair_loop.specs.LoopInvariants.{loop-stops, loop-ends}
+use Rattle.repair_loop.proofs.raise_all.Statement.{statement}
+use Rattle.repair_loop.proofs.raise_all.Tie as tie
+
+abbrev Inv-loop : tie.InvT-loop
+Inv-loop n triangles weights₀ coordinates₀ s sum end total₀ count₀ full₀ t₀ weights coordinates total count full t =
+    Loops n triangles s weights₀ coordinates₀ weights coordinates total count full t
+
+abbrev μ-loop : tie.MeasureT-loop
+μ-loop n triangles weights₀ coordinates₀ s sum end total₀ count₀ full₀ t₀ weights coordinates total count full t = 2 * n - 4 - count
+
+first-bad-requires : tie.Need-first-bad-requires Inv-loop μ-loop
+first-bad-requires c κs = search (start-within, start-some, needs)
+
+loop-holds : tie.Need-loop-holds Inv-loop μ-loop
+loop-holds c = search loops-begin
+
+try-raise-requires : tie.Need-try-raise-requires Inv-loop μ-loop
+try-raise-requires c κs = search can-raise
+
+returns : tie.Need-returns Inv-loop μ-loop
+returns c = search loop-stops
+
+add-count : tie.Need-add-count Inv-loop μ-loop
+add-count c =
+    let start : tie.Start Inv-loop μ-loop = search in
+    let at-loop : tie.At-loop Inv-loop μ-loop = search in
+    omega (arith, fueled _ _ _ _ _ _ (start .pre) _ _ _ _ _ _ (at-loop .loop .inv), start-some _ _ _ _ _ _ (start .pre))
+
+next-bad-requires : tie.Need-next-bad-requires Inv-loop μ-loop
+next-bad-requires c κs = let a = c .before .before .before .before .before .before .before .before .before .before .before .before .args in
+    let S = now (a .n) (a .triangles .now) (a .s .now) (a .weights .now) (a .coordinates .now) (a .sum)
+    (c .before .before .before .before .before .before .before .before .before .before .before .before .pre)
+    (c .before .before .before .before .before .before .before .before .loop .weights)
+    (c .before .before .before .before .before .before .before .before .loop .coordinates)
+    (c .before .before .before .before .before .before .before .before .loop .total)
+    (c .before .before .before .before .before .before .before .before .loop .count)
+    (c .before .before .before .before .before .before .before .before .loop .full)
+    (c .before .before .before .before .before .before .before .before .loop .t)
+    (c .before .before .before .before .before .before .before .before .loop .inv) in (
+      S .lower,
+      omega (arith, c .before .before .before .before .before .before .before .loop-test .taken),
+      omega (
+        arith,
+        start-some (a .n) (a .triangles .now) (a .weights .now) (a .coordinates .now) (a .s .now) (a .sum)
+            (c .before .before .before .before .before .before .before .before .before .before .before .before .pre),
+      ),
+      next-within (a .n) (a .triangles .now) (a .s .now) (a .weights .now) (a .coordinates .now) (a .sum)
+          (c .before .before .before .before .before .before .before .before .before .before .before .before .pre)
+          (c .before .before .before .before .before .before .before .before .loop .weights)
+          (c .before .before .before .before .before .before .before .before .loop .coordinates)
+          (c .before .before .before .before .before .before .before .before .loop .total)
+          (c .before .before .before .before .before .before .before .before .loop .count)
+          (c .before .before .before .before .before .before .before .before .loop .full)
+          (c .before .before .before .before .before .before .before .before .loop .t)
+          (c .before .before .before .before .before .before .before .before .loop .inv)
+          (c .before .before .before .before .before .before .before .loop-test .taken) (c .before .before .before .before .try-raise .last .1 .1 .0)
+          (c .before .before .before .before .try-raise .last .1 .1 .1 .0) (c .before .before .before .before .try-raise .result)
+          (c .before .before .before .before .try-raise .ensures) (omega arith),
+    )
+
+loop-less : tie.Need-loop-less Inv-loop μ-loop
+loop-less c =
+    let start : tie.Start Inv-loop μ-loop = search in
+    let at-loop : tie.At-loop Inv-loop μ-loop = search in
+    omega (arith, fueled _ _ _ _ _ _ (start .pre) _ _ _ _ _ _ (at-loop .loop .inv))
+
+loop-again : tie.Need-loop-again Inv-loop μ-loop
+loop-again c = search loops-again
+
+returns-2 : tie.Need-returns-2 Inv-loop μ-loop
+returns-2 c = search loop-ends
+
+pub raise-all-spec : {M : Type 1} → statement M
+raise-all-spec =
+    tie.close
+    (tie.spec
+    Inv-loop
+    μ-loop
+    (λ c. search needs)
+    (λ c. search needs)
+    first-bad-requires
+    loop-holds
+    try-raise-requires
+    (λ c. search needs)
+    (λ c. search needs)
+    returns
+    add-count
+    next-bad-requires
+    (λ c κs. search needs)
+    loop-less
+    loop-again
+    (λ c. search needs)
+    (λ c. search needs)
+    returns-2)

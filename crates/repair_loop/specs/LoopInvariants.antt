@@ -1,0 +1,211 @@
+-- The iterations of repair's loop: what holds whenever the next bad triangle is found lets the raise be tried; a raise that is made brings it there again; and at
+-- both ends the answer and the buffers are the definition's. Assumes nothing.
+use Prim.Native.Nat.{ℕ, _+_, _-_, _*_, _≤_, _<_}
+use mathlib.Core.Path.{_≡_, refl, sym, ap, _∙_, subst}
+use mathlib.Core.Logic.{inl, inr}
+use mathlib.Core.Bool.{false}
+use mathlib.Core.List.{List}
+use native.Mathlib.Omega.{arith}
+use native.Mathlib.Decide.{ℕ-discrete}
+use lib.ListN.{length}
+use lib.IntN.{ℤ, _-ℤ_}
+use borrow.Author.Tests.{le-ltb}
+use Rattle.definitions.specs.Lists.{total, totalAbs}
+use Rattle.definitions.specs.Mesh.{weightsLength, org}
+use Rattle.definitions.specs.Labels.{outer}
+use Rattle.definitions.specs.Forward.{forward}
+use Rattle.definitions.specs.Backward.{coordinate}
+use Rattle.definitions.specs.Repair.{limit, finished, stopped, RepairState, repair}
+use Rattle.definitions.specs.Answers.{done, refused, stoppedAfter}
+use Rattle.definitions.specs.Refusals.{row9, row10, repairAnswer}
+use Rattle.theory_realizer.specs.Units.{Units}
+use Rattle.theory_crossings.specs.UnitMaps.{units}
+use Rattle.theory_repair.specs.Bounds.{outer-total, row10-forward}
+use Rattle.theory_repair.specs.Repairs.{repair-outcome}
+use Rattle.scratch_tables.specs.Tables.{tablesOf}
+use Rattle.repair_model.specs.Raise.{Drawn, drawn-within, drawn-all}
+use Rattle.repair_model.specs.Search.{badAt, raiseAt, Found, Next}
+use Rattle.repair_model.specs.Ready.{Ready, org-low, raise-room}
+use Rattle.repair_model.specs.LoopState.{State, Passed, more-fuel, within, at-finished, at-stopped, at-raised, at-start, within-after}
+use Rattle.repair_thirds.specs.Thirds.{Closable, Closed}
+use Rattle.repair_loop.specs.OneRaise.{RaisePre, Tried, LoopPre}
+use Rattle.repair_loop.specs.UpdateOnReady.{updatable, timesMoved-moved}
+use Rattle.repair_loop.specs.declared.Ended.{Ended}
+use Rattle.repair_loop.specs.declared.Ended.the-variants.{Finished, Stopped}
+use Rattle.repair_loop.specs.Answer.{endToAnswer, Halts, Ends}
+
+-- ---- at each iteration
+
+-- where the definition's loop ends so, the code's end is its own
+halts-by : (n : ℕ) (ts ls : List ℕ) (ws₀ ws bs : List ℤ) (r : Ended) (m : RepairState) → repair n ts ls ws₀ ≡ m →
+    endToAnswer r ≡ repairAnswer (m .ending) (length (m .raises)) → ws ≡ m .weights → Drawn n ts ls (m .weights) bs → Halts n ts ls ws₀ ws bs r
+halts-by n ts ls ws₀ ws bs r m e a w b =
+    record {
+      answer = a ∙ ap (λ (q : RepairState). repairAnswer (q .ending) (length (q .raises))) (sym e);
+      weights = w ∙ ap (λ (q : RepairState). q .weights) (sym e);
+      drawn = subst (λ (q : RepairState). Drawn n ts ls (q .weights) bs) (sym e) b;
+    }
+
+module _ (n : ℕ) (ts ls : List ℕ) (ws₀ : List ℤ) (len : length ws₀ ≡ weightsLength n) (ws bs s : List ℤ) (sum count full t : ℕ)
+    (S : State n ts ls ws₀ ws bs s sum count full t) where
+  above : 0 < t
+  above = omega (arith, S .positive, S .lower)
+
+  pub fuel : count < 2 * n - 4
+  fuel = more-fuel n ts ls ws₀ len ws bs s sum count full t S
+
+  pub raisable : t < 2 * n - 4 → 10 * n ≤ length s → RaisePre n ts ws bs s t sum
+  raisable h room =
+      let w = within n ts ls ws₀ len ws bs s sum count full t S in
+      let small = raise-room n ts ls s (S .ready) ws bs (S .drawn) t above h (S .long) (S .light) in
+      record {
+        positive = above;
+        inside = omega (arith, h, S .long);
+        low = omega (arith, h, S .ready .most);
+        summed = S .summed;
+        light = S .light;
+        within = w;
+        small = small;
+        updatable = updatable n ts ls s (S .ready) t above h bs (raiseAt (tablesOf s) bs t) room (S .drawn .long) w small;
+      }
+
+  module _ (h : t < 2 * n - 4) (ws′ bs′ : List ℤ) (r : ℕ) (R : Tried n ts s ws bs ws′ bs′ t r) where
+    -- the raise is made
+    pub within-raised : r ≤ limit → row10 bs′ ≡ false
+    within-raised k =
+        let x = raiseAt (tablesOf s) bs t in
+        within-after n ts ls ws₀ len ws bs s sum count full t S h x refl (omega (arith, R .sum)) bs′
+        (timesMoved-moved n ts ls s (S .ready) t above h x bs bs′ (R .made k .1))
+
+    pub raised : r ≤ limit → (full′ t′ : ℕ) → Next (tablesOf s) bs′ full t (2 * n - 4) t′ → Passed full t full′ →
+        State n ts ls ws₀ ws′ bs′ s r (count + 1) full′ t′
+    raised k full′ t′ N Q =
+        let x = raiseAt (tablesOf s) bs t in
+        rw (R .made k .0)
+        (at-raised n ts ls ws₀ len ws bs s sum count full t S h x refl (omega (arith, R .sum)) bs′
+        (timesMoved-moved n ts ls s (S .ready) t above h x bs bs′ (R .made k .1)) full′ t′ N Q r (R .sum))
+
+    -- it is not
+    pub halts-stopped : limit < r → Halts n ts ls ws₀ ws′ bs′ (Stopped count)
+    unfolding repairAnswer
+    halts-stopped k =
+        let e = at-stopped n ts ls ws₀ len ws bs s sum count full t S h (raiseAt (tablesOf s) bs t) refl (omega (arith, R .sum)) in
+        let m = R .kept k in
+        halts-by n ts ls ws₀ ws′ bs′ (Stopped count) (record { ending = stopped; weights = ws; raises = S .raises }) e
+        (ap (λ (k : ℕ). refused (stoppedAfter k)) (sym (S .counted))) (m .0) (rw (m .1) (S .drawn))
+
+  -- no bad triangle is left
+  pub halts-finished : 2 * n - 4 ≤ t → Halts n ts ls ws₀ ws bs (Finished count)
+  unfolding repairAnswer
+  halts-finished h =
+      let e = at-finished n ts ls ws₀ len ws bs s sum count full t S h in
+      halts-by n ts ls ws₀ ws bs (Finished count) (record { ending = finished; weights = ws; raises = S .raises }) e
+      (ap (λ (k : ℕ). done k) (sym (S .counted))) refl (S .drawn)
+
+-- ---- the start
+
+module _ (n : ℕ) (ts : List ℕ) (ws bs s : List ℤ) (sum : ℕ) (M : LoopPre n ts ws bs s sum) where
+  pub starts : (ls : List ℕ) → Ready n ts ls s → bs ≡ forward n ts ls ws → (t : ℕ) → Found (badAt (tablesOf s) bs) 1 (2 * n - 4) t →
+      State n ts ls ws ws bs s sum 0 1 t
+  starts ls Y drawn t F = at-start n ts ls ws bs s sum t (M .long) (M .light) (M .summed) drawn Y F
+
+  pub start-some : (3 ≤ n) × (n ≤ 4096)
+  start-some = (M .ready .sphere .least, M .ready .most)
+
+-- ---- the loop
+
+-- for whatever labels the mesh is ready with, the loop is where the definition's is
+pub record Loops (n : ℕ) (ts : List ℕ) (s ws₀ bs₀ ws bs : List ℤ) (total count full t : ℕ) : Type 0 where
+  pub weights-long : length ws ≡ length ws₀
+  pub coordinates-long : length bs ≡ length bs₀
+  pub state : (ls : List ℕ) → Ready n ts ls s → bs₀ ≡ forward n ts ls ws₀ → State n ts ls ws₀ ws bs s total count full t
+
+module _ (n : ℕ) (ts : List ℕ) (s ws₀ bs₀ : List ℤ) (sum : ℕ) (M : LoopPre n ts ws₀ bs₀ s sum) where
+  unit-maps : Units n ts (M .labels)
+  unit-maps = units ts (M .labels) (M .ready .sphere) (M .ready .size) (M .ready .realizer)
+
+  pub start-within : row10 bs₀ ≡ false
+  unfolding row9
+  start-within = rw (M .drawn) (row10-forward n ts (M .labels) (M .ready .size) unit-maps ws₀ (M .long) (le-ltb limit (totalAbs ws₀) (M .light)))
+
+  pub loops-begin : (t : ℕ) → Found (badAt (tablesOf s) bs₀) 1 (2 * n - 4) t → Loops n ts s ws₀ bs₀ ws₀ bs₀ sum 0 1 t
+  loops-begin t F = record { weights-long = refl; coordinates-long = refl; state = λ ls Y d. starts n ts ws₀ bs₀ s sum M ls Y d t F }
+
+  module _ (ws bs : List ℤ) (total count full t : ℕ) (L : Loops n ts s ws₀ bs₀ ws bs total count full t) where
+    -- with the labels that it was called for
+    pub now : State n ts (M .labels) ws₀ ws bs s total count full t
+    now = L .state (M .labels) (M .ready) (M .drawn)
+
+    pub can-raise : t < 2 * n - 4 → RaisePre n ts ws bs s t total
+    can-raise h = raisable n ts (M .labels) ws₀ (M .long) ws bs s total count full t now h (M .room)
+
+    pub fueled : count < 2 * n - 4
+    fueled = fuel n ts (M .labels) ws₀ (M .long) ws bs s total count full t now
+
+    module _ (h : t < 2 * n - 4) (ws′ bs′ : List ℤ) (r : ℕ) (R : Tried n ts s ws bs ws′ bs′ t r) where
+      pub next-within : r ≤ limit → row10 bs′ ≡ false
+      next-within k = within-raised n ts (M .labels) ws₀ (M .long) ws bs s total count full t now h ws′ bs′ r R k
+
+      pub loops-again : r ≤ limit → length ws′ ≡ length ws → length bs′ ≡ length bs →
+          (full′ t′ : ℕ) → Next (tablesOf s) bs′ full t (2 * n - 4) t′ → Passed full t full′ →
+          Loops n ts s ws₀ bs₀ ws′ bs′ r (count + 1) full′ t′
+      loops-again k a b full′ t′ N Q =
+          record {
+            weights-long = a ∙ L .weights-long;
+            coordinates-long = b ∙ L .coordinates-long;
+            state = λ ls Y d. raised n ts ls ws₀ (M .long) ws bs s total count full t (L .state ls Y d) h ws′ bs′ r R k full′ t′ N Q;
+          }
+
+      pub loop-stops : limit < r → (ls : List ℕ) → Ready n ts ls s → bs₀ ≡ forward n ts ls ws₀ →
+          Halts n ts ls ws₀ ws′ bs′ (Stopped count)
+      loop-stops k ls Y d = halts-stopped n ts ls ws₀ (M .long) ws bs s total count full t (L .state ls Y d) h ws′ bs′ r R k
+
+    pub loop-ends : 2 * n - 4 ≤ t → (ls : List ℕ) → Ready n ts ls s → bs₀ ≡ forward n ts ls ws₀ → Halts n ts ls ws₀ ws bs (Finished count)
+    loop-ends h ls Y d = halts-finished n ts ls ws₀ (M .long) ws bs s total count full t (L .state ls Y d) h
+
+  -- ---- the third coordinates
+
+  module _ (ws bs : List ℤ) (r : Ended) (H : (ls : List ℕ) → Ready n ts ls s → bs₀ ≡ forward n ts ls ws₀ → Halts n ts ls ws₀ ws bs r) where
+    pub closable : Closable n ts bs
+    unfolding row9
+    closable =
+        let h = H (M .labels) (M .ready) (M .drawn) in
+        let o = repair-outcome n ts (M .labels) (M .ready .sphere .least) (M .ready .size) unit-maps ws₀ (M .long) .loop in
+        record {
+          few = M .ready .most;
+          first = org-low n ts (M .labels) s (M .ready) 0;
+          long = h .drawn .long;
+          within =
+              drawn-within n ts (M .labels) unit-maps (M .ready .size) (repair n ts (M .labels) ws₀ .weights) bs (o .length-kept ∙ M .long)
+              (o .light (le-ltb limit (totalAbs ws₀) (M .light))) (h .drawn);
+        }
+
+    pub ends : (bs′ : List ℤ) → Closed n (coordinate bs 0 (org ts 0)) bs bs′ → (ls : List ℕ) → Ready n ts ls s →
+        bs₀ ≡ forward n ts ls ws₀ → Ends n ts ls ws₀ ws bs′ r
+    unfolding outer
+    ends bs′ C ls Y d =
+        let h = H ls Y d in
+        let U = units ts ls (Y .sphere) (Y .size) (Y .realizer) in
+        let o = repair-outcome n ts ls (Y .sphere .least) (Y .size) U ws₀ (M .long) .loop in
+        let end = repair n ts ls ws₀ .weights in
+        let N : coordinate bs 0 (org ts 0) ≡ total (repair n ts ls ws₀ .weights) = h .drawn .same 0 (org ts 0) (omega arith) (org-low n ts ls s Y 0)
+        ∙ outer-total n ts ls (Y .size) U end (o .length-kept ∙ M .long) (λ e k. org-low n ts ls s Y e) in
+        record {
+          answer = h .answer;
+          weights = h .weights;
+          coordinates =
+              drawn-all n ts ls U (Y .size) end bs (h .drawn) bs′ (C .long) (λ c i q k. C .same c i q)
+              (λ i k. C .third i k ∙ ap (λ (z : ℤ). z -ℤ coordinate bs 0 i -ℤ coordinate bs 1 i) N);
+        }
+
+-- ---- what is extended
+
+pub passed-it : (full t : ℕ) → full ≤ t → full ≡ t → Passed full t (t + 1)
+passed-it full t h e = record {
+  least = omega arith;
+  most = omega arith;
+  each = λ i l. elim (ℕ-discrete i t) [ yes q ↦ inr q | no q ↦ inl (omega arith) ];
+}
+
+pub passed-not : (full t : ℕ) → full ≤ t → Passed full t full
+passed-not full t h = record { least = omega arith; most = omega arith; each = λ i l. inl l }

@@ -1,0 +1,94 @@
+-- What one raise asks and gives, as the code makes it, and what the whole loop asks. Assumes nothing.
+use Prim.Native.Nat.{ℕ, suc, _+_, _-_, _*_, _≤_, _<_}
+use mathlib.Core.Path.{_≡_, refl, sym, ap, _∙_}
+use mathlib.Core.Bool.{false}
+use mathlib.Core.List.{List}
+use native.Mathlib.Omega.{arith}
+use lib.ListN.{length, getD, set}
+use lib.IntN.{ℤ, pos, natAbs, _+ℤ_}
+use Rattle.definitions.specs.Lists.{totalAbs}
+use Rattle.definitions.specs.Mesh.{weightsLength}
+use Rattle.definitions.specs.Forward.{weight, forward}
+use Rattle.definitions.specs.Repair.{limit, addTo}
+use Rattle.definitions.specs.Refusals.{row10}
+use Rattle.laws.specs.Lists.{getD-in, totalAbs-in, totalAbs-set}
+use Rattle.scratch_tables.specs.Tables.{tablesOf}
+use Rattle.repair_model.specs.Search.{raiseAt}
+use Rattle.repair_model.specs.Ready.{Ready}
+use Rattle.repair_update.specs.WalkLoop.{UpdatePre, WalkMoved}
+
+-- ---- weights
+
+pub record SumPre (ws : List ℤ) (t sum : ℕ) (x : ℤ) : Type 0 where
+  pub positive : 0 < t
+  pub inside : t ≤ length ws
+  pub summed : sum ≡ totalAbs ws
+  pub light : totalAbs ws ≤ limit
+  pub small : natAbs x ≤ 2 * limit + 1
+
+-- the weight of t stands at place t - 1
+add-place : (ws : List ℤ) (t : ℕ) (x : ℤ) → 0 < t → addTo ws t x ≡ set ws (t - 1) (getD ws (t - 1) (pos 0) +ℤ x)
+unfolding addTo weight
+add-place ws t x h =
+    let e : t ≡ suc (t - 1) = omega arith in
+    ap (λ (w : ℤ). set ws (t - 1) (w +ℤ x)) (ap (λ (k : ℕ). weight ws k) e)
+
+pub added : (ws ws′ : List ℤ) (t : ℕ) (x : ℤ) → 0 < t → ws′ ≡ set ws (t - 1) (getD ws (t - 1) (pos 0) +ℤ x) → ws′ ≡ addTo ws t x
+added ws ws′ t x h e = e ∙ sym (add-place ws t x h)
+
+-- no weight is past the limit where all together are not
+pub weight-light : (ws : List ℤ) (i : ℕ) → i < length ws → totalAbs ws ≤ limit → natAbs (getD ws i (pos 0)) ≤ limit
+weight-light ws i h l = omega (arith, totalAbs-in (getD-in ws i (pos 0) h))
+
+-- the new sum
+pub sum-is : (ws : List ℤ) (t sum : ℕ) (x w y : ℤ) (old new : ℕ) → SumPre ws t sum x → w ≡ getD ws (t - 1) (pos 0) → y ≡ w +ℤ x →
+    old ≡ natAbs w → new ≡ natAbs y →
+    (old ≤ sum) × (sum - old + new ≡ totalAbs (addTo ws t x))
+sum-is ws t sum x w y old new S ew ey eo en =
+    let h : t - 1 < length ws = omega (arith, S .positive, S .inside) in
+    let v = getD ws (t - 1) (pos 0) in
+    let a = ap natAbs ew in
+    let b = ap natAbs (ey ∙ ap (λ (z : ℤ). z +ℤ x) ew) in
+    let c = totalAbs-set ws (t - 1) (v +ℤ x) (pos 0) h in
+    let d = totalAbs-in (getD-in ws (t - 1) (pos 0) h) in
+    let e = ap totalAbs (add-place ws t x (S .positive)) in
+    (omega (arith, a, d, S .summed), omega (arith, a, b, c, d, e, S .summed))
+
+-- ---- one raise
+
+pub record RaisePre (n : ℕ) (ts : List ℕ) (ws bs s : List ℤ) (t sum : ℕ) : Type 0 where
+  pub positive : 0 < t
+  pub inside : t ≤ length ws
+  pub low : t < 65536
+  pub summed : sum ≡ totalAbs ws
+  pub light : totalAbs ws ≤ limit
+  pub within : row10 bs ≡ false
+  pub small : natAbs (raiseAt (tablesOf s) bs t) ≤ 2 * limit + 1
+  pub updatable : UpdatePre n ts s bs t (raiseAt (tablesOf s) bs t)
+
+-- r is the sum with the raise; past the limit nothing has changed, otherwise the raise is made
+pub record Tried (n : ℕ) (ts : List ℕ) (s ws bs ws′ bs′ : List ℤ) (t r : ℕ) : Type 0 where
+  pub sum : r ≡ totalAbs (addTo ws t (raiseAt (tablesOf s) bs t))
+  pub kept : limit < r → (ws′ ≡ ws) × (bs′ ≡ bs)
+  pub made : r ≤ limit → (ws′ ≡ addTo ws t (raiseAt (tablesOf s) bs t)) × WalkMoved n ts (tablesOf s) t (raiseAt (tablesOf s) bs t) bs bs′
+
+module _ (n : ℕ) (ts : List ℕ) (s ws bs : List ℤ) (t r : ℕ) (x : ℤ) (ex : x ≡ raiseAt (tablesOf s) bs t)
+    (er : r ≡ totalAbs (addTo ws t x)) where
+  pub tried-kept : limit < r → Tried n ts s ws bs ws bs t r
+  tried-kept h = record { sum = rw ex at er; kept = λ l. (refl, refl); made = λ l. absurd (omega arith) }
+
+  pub tried-made : (ws′ bs′ : List ℤ) → r ≤ limit → ws′ ≡ addTo ws t x → WalkMoved n ts (tablesOf s) t x bs bs′ →
+      Tried n ts s ws bs ws′ bs′ t r
+  tried-made ws′ bs′ h ew G = record { sum = rw ex at er; kept = λ l. absurd (omega arith); made = λ l. (rw ex at ew, rw ex at G) }
+
+-- ---- the whole loop
+
+-- the coordinates are those of the weights, for some labels whose trace is stored
+pub record LoopPre (n : ℕ) (ts : List ℕ) (ws bs s : List ℤ) (sum : ℕ) : Type 0 where
+  pub labels : List ℕ
+  pub ready : Ready n ts labels s
+  pub drawn : bs ≡ forward n ts labels ws
+  pub long : length ws ≡ weightsLength n
+  pub summed : sum ≡ totalAbs ws
+  pub light : totalAbs ws ≤ limit
+  pub room : 10 * n ≤ length s

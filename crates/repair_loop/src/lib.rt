@@ -1,0 +1,151 @@
+// Repair on a labelled mesh: the coordinates of the lent weights first, then the words that a raise reads and the preorders, then the loop of raises.
+// In the loop coordinates 0 and 1 are those of the weights all the time: a raise moves the subtrees behind the sides that its triangle's walk crosses. The third
+// is written at the end. The sum of the weights' absolute values is kept up to date, so that the raise that would break 9 is not made.
+ghost use mathlib.Core.Path.{_≡_};
+ghost use mathlib.Core.List.{List};
+ghost use Prim.Native.Nat.{ℕ, _<_, _≤_};
+ghost use Rattle.definitions.specs.Lists.{totalAbs};
+ghost use Rattle.definitions.specs.Forward.{forward};
+ghost use Rattle.definitions.specs.Repair.{addTo};
+ghost use Rattle.repair_model.specs.Ready.{Ready};
+ghost use Rattle.repair_model.specs.LoopState.{Passed};
+ghost use Rattle.repair_loop.specs.OneRaise.{SumPre, RaisePre, Tried, LoopPre};
+ghost use Rattle.repair_loop.specs.Answer.{Halts, Ends};
+ghost use mathlib.Core.Bool.{false};
+ghost use Rattle.definitions.specs.Refusals.{row9};
+ghost use Rattle.labels_tables.specs.LabelledTables.{Peeled};
+ghost use Rattle.repair_loop.specs.Answer.{Ends};
+ghost use Rattle.repair_loop.specs.Start.{StartPre};
+
+// How the loop ended, with the count of raises: no triangle is bad any more, or the next raise would break 9.
+pub enum Ended {
+    Finished(usize),
+    Stopped(usize),
+}
+
+// the sum of the absolute values once the weight of triangle t is raised by x
+fn sum_after(weights: &[i64], t: usize, sum: usize, x: i64) -> usize
+    requires { ⌜ SumPre (now weights) t sum x ⌝ }
+    ensures { λ r. ⌜ r ≡ totalAbs (addTo (now (weights .entry)) t x) ⌝ }
+{
+    let w = int64::at(weights, t - 1);
+    let y = int64::plus(w, x);
+    let old = int64::magnitude(w);
+    let new = int64::magnitude(y);
+    sum - old + new
+}
+
+// Triangle t is raised, if the sum of the absolute values then stays within the limit. That sum is returned.
+fn try_raise(
+    n: usize,
+    triangles: &[u16],
+    weights: &mut [i64],
+    coordinates: &mut [i64],
+    s: &[i64],
+    t: usize,
+    sum: usize,
+) -> usize
+    requires { ⌜ RaisePre n (now triangles) (now weights) (now coordinates) (now s) t sum ⌝ }
+    ensures { λ r. ⌜ Tried n (now (triangles .entry)) (now (s .entry)) (now (weights .entry)) (now (coordinates .entry)) (now (weights .exit)) (now (coordinates .exit)) t r ⌝ }
+{
+    let x = repair_search::raise_at(s, coordinates, t);
+    let new = sum_after(weights, t, sum, x);
+    if new > 1_073_741_823 {
+        return new;
+    }
+    repair_update::add_at(weights, t - 1, x);
+    repair_update::add_raise(n, triangles, s, coordinates, t, x);
+    new
+}
+
+// Triangles below `full` are fully extended, and t has been raised: below what all are extended now.
+fn extended_after(full: usize, t: usize) -> usize
+    requires { ⌜ (full ≤ t) × (t < 65536) ⌝ }
+    ensures { λ r. ⌜ Passed full t r ⌝ }
+{
+    if full == t { t + 1 } else { full }
+}
+
+// While some inner triangle is bad, the lowest-numbered one is raised. An extended triangle stays so; those that all are, up to the first that is not, are
+// not looked at again.
+fn raise_all(
+    n: usize,
+    triangles: &[u16],
+    weights: &mut [i64],
+    coordinates: &mut [i64],
+    s: &[i64],
+    sum: usize,
+) -> Ended
+    requires { ⌜ LoopPre n (now triangles) (now weights) (now coordinates) (now s) sum ⌝ }
+    ensures { λ r. ⌜ ((ls : List ℕ) → Ready n (now (triangles .entry)) ls (now (s .entry)) → now (coordinates .entry) ≡ forward n (now (triangles .entry)) ls (now (weights .entry)) →
+        Halts n (now (triangles .entry)) ls (now (weights .entry)) (now (weights .exit)) (now (coordinates .exit)) r) ⌝ }
+{
+    let end = 2 * n - 4;
+    let mut total = sum;
+    let mut count = 0;
+    let mut full = 1;
+    let mut t = repair_search::first_bad(s, coordinates, 1, end);
+    while t < end {
+        let tried = try_raise(n, triangles, weights, coordinates, s, t, total);
+        if tried > 1_073_741_823 {
+            return Ended::Stopped(count);
+        }
+        total = tried;
+        count += 1;
+        let next = repair_search::next_bad(s, coordinates, full, t, end);
+        full = extended_after(full, t);
+        t = next;
+    }
+    Ended::Finished(count)
+}
+
+// The weights are finished, and their coordinates written.
+pub fn run_loop(
+    n: usize,
+    triangles: &[u16],
+    weights: &mut [i64],
+    coordinates: &mut [i64],
+    s: &[i64],
+    sum: usize,
+) -> Ended
+    requires { ⌜ LoopPre n (now triangles) (now weights) (now coordinates) (now s) sum ⌝ }
+    ensures { λ r. ⌜ ((ls : List ℕ) → Ready n (now (triangles .entry)) ls (now (s .entry)) → now (coordinates .entry) ≡ forward n (now (triangles .entry)) ls (now (weights .entry)) →
+        Ends n (now (triangles .entry)) ls (now (weights .entry)) (now (weights .exit)) (now (coordinates .exit)) r) ⌝ }
+{
+    let ended = raise_all(n, triangles, weights, coordinates, s, sum);
+    repair_thirds::write_thirds(n, triangles, coordinates);
+    ended
+}
+
+// the sum of the absolute values of weights that 9 lets through
+fn sum_of_absolutes(weights: &[i64]) -> usize
+    requires { ⌜ row9 (now weights) ≡ false ⌝ }
+    ensures { λ r. ⌜ r ≡ totalAbs (now (weights .entry)) ⌝ }
+{
+    let mut sum: usize = 0;
+    let mut i = 0;
+    while i < weights.len() {
+        sum += int64::size_at(weights, i);
+        i += 1;
+    }
+    sum
+}
+
+// The weights are repaired, and their coordinates written. What the lent coordinates hold before does not matter.
+pub fn repair_labelled(
+    n: usize,
+    triangles: &[u16],
+    weights: &mut [i64],
+    coordinates: &mut [i64],
+    s: &mut [i64],
+) -> Ended
+    requires { ⌜ StartPre n (now triangles) (now weights) (now coordinates) (now s) ⌝ }
+    ensures { λ r. ⌜ ((ls : List ℕ) → Peeled n (now (triangles .entry)) ls (now (s .entry)) →
+        Ends n (now (triangles .entry)) ls (now (weights .entry)) (now (weights .exit)) (now (coordinates .exit)) r) ⌝ }
+{
+    maps_forward::write_coordinates(n, triangles, s, weights, coordinates);
+    repair_words::pack_words(n, triangles, s);
+    repair_preorder::build_preorders(n, triangles, s);
+    let sum = sum_of_absolutes(weights);
+    run_loop(n, triangles, weights, coordinates, s, sum)
+}

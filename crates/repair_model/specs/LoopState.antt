@@ -1,0 +1,294 @@
+-- The loop of repair as the code runs it: what holds each time it looks for the next bad triangle, on a mesh whose trace is stored, and that a raise brings
+-- it there again. Assumes nothing.
+use Prim.Native.Nat.{ℕ, zero, suc, _+_, _-_, _*_, _/_, _≤_, _<_}
+use mathlib.Core.Path.{_≡_, refl, sym, ap, _∙_, subst}
+use mathlib.Core.Logic.{_⊎_, inl, inr}
+use mathlib.Core.Bool.{Bool, true, false}
+use mathlib.Core.List.{List, [], _∷_, _++_}
+use mathlib.Core.Option.{none, some}
+use native.Mathlib.Omega.{arith}
+use native.Mathlib.Decide.{decLt}
+use lib.Dec.{eqb, ltb}
+use lib.ListN.{length, length-append}
+use lib.IntN.{ℤ, pos}
+use lib.Signed.{_≤ℤ_}
+use borrow.Author.Tests.{lt-ltb, le-ltb, eq-eqb, eqb-true}
+use Rattle.definitions.specs.Lists.{first, any, totalAbs}
+use Rattle.definitions.specs.Mesh.{weightsLength, org, inner, opp}
+use Rattle.definitions.specs.Forward.{forward}
+use Rattle.definitions.specs.Repair.{limit, bad, raise, addTo, Ending, finished, stopped, outOfFuel, RepairState, repairLoop, repair}
+use Rattle.definitions.specs.Refusals.{row9, row10}
+use Rattle.laws.specs.Integers.{int, zpos}
+use Rattle.laws.specs.Lists.{_∈_, tested, clash, any-true, any-false}
+use Rattle.theory_sphere.specs.Sphere.{Sphere}
+use Rattle.theory_realizer.specs.Units.{Units, unit0, unit1}
+use Rattle.theory_crossings.specs.UnitMaps.{units}
+use Rattle.theory_repair.specs.Coordinates.{inner-range}
+use Rattle.theory_repair.specs.Areas.{Extended, good}
+use Rattle.theory_repair.specs.Raises.{length-addTo, raise-keeps, raise-extends, bad-raise}
+use Rattle.theory_repair.specs.Repairs.{repair-outcome}
+use Rattle.theory_repair.specs.AllWalks.{line}
+use Rattle.theory_repair.specs.RegionBorders.{off-lines}
+use Rattle.scratch_tables.specs.Tables.{tablesOf}
+use Rattle.repair_model.specs.Raise.{Drawn, Moved, drawn-within, drawn-first, moved-drawn, bad-kept}
+use Rattle.repair_model.specs.Search.{badAt, raiseAt, Found, Next, first-at, first-not}
+use Rattle.repair_model.specs.Ready.{Ready, line-is, tells-bad, tells-raise}
+
+-- ---- one iteration of the definition's loop
+
+module _ (n : ℕ) (ts ls : List ℕ) (k : ℕ) (ws : List ℤ) (rs : List ℕ) where
+  abbrev badNow : ℕ → Bool
+  badNow = bad ts ls (forward n ts ls ws)
+
+  abbrev next-weights : ℕ → List ℤ
+  next-weights t = addTo ws t (raise ts ls (forward n ts ls ws) t)
+
+  turn-finished : first badNow (inner ts) ≡ none → repairLoop n ts ls (suc k) ws rs ≡ record { ending = finished; weights = ws; raises = rs }
+  unfolding repairLoop
+  turn-finished e = rw (e, repairLoop)
+
+  turn-stopped : (t : ℕ) → first badNow (inner ts) ≡ some t → ltb limit (totalAbs (next-weights t)) ≡ true →
+      repairLoop n ts ls (suc k) ws rs ≡ record { ending = stopped; weights = ws; raises = rs }
+  unfolding repairLoop
+  turn-stopped t e f = rw (e, f, repairLoop)
+
+  turn-raised : (t : ℕ) → first badNow (inner ts) ≡ some t → ltb limit (totalAbs (next-weights t)) ≡ false →
+      repairLoop n ts ls (suc k) ws rs ≡ repairLoop n ts ls k (next-weights t) (rs ++ (t ∷ []))
+  unfolding repairLoop
+  turn-raised t e f = rw (e, f, repairLoop)
+
+-- ---- what holds each time the code has found the next bad triangle t (2n - 4, if there is none)
+
+-- ws₀ are the weights that were lent, ws those of now, bs what is drawn of them, and `sum` their absolute values together. Triangles below `full` are fully
+-- extended, and stay so.
+pub record State (n : ℕ) (ts ls : List ℕ) (ws₀ ws bs s : List ℤ) (sum count full t : ℕ) : Type 0 where
+  pub ready : Ready n ts ls s
+  pub long : length ws ≡ weightsLength n
+  pub light : totalAbs ws ≤ limit
+  pub summed : sum ≡ totalAbs ws
+  pub drawn : Drawn n ts ls ws bs
+  -- the definition's loop goes on from here
+  pub raises : List ℕ
+  pub counted : length raises ≡ count
+  pub rest : repairLoop n ts ls (2 * n - 4 - count) ws raises ≡ repair n ts ls ws₀
+  -- t is the lowest-numbered bad triangle
+  pub positive : 0 < full
+  pub lower : full ≤ t
+  pub most : t ≤ 2 * n - 4
+  pub extended : (i : ℕ) → 0 < i → i < full → Extended ts ls (forward n ts ls ws) i
+  pub before : (i : ℕ) → 0 < i → i < t → bad ts ls (forward n ts ls ws) i ≡ false
+  pub here : t < 2 * n - 4 → bad ts ls (forward n ts ls ws) t ≡ true
+
+-- t has been raised: r is `full`, or one past t if t was the first that was not extended
+pub record Passed (full t r : ℕ) : Type 0 where
+  pub least : full ≤ r
+  pub most : r ≤ t + 1
+  pub each : (i : ℕ) → i < r → (i < full) ⊎ (i ≡ t)
+
+-- weights that sum to no more than the limit pass 9
+light-9 : (ws : List ℤ) → totalAbs ws ≤ limit → row9 ws ≡ false
+unfolding row9
+light-9 ws h = le-ltb limit (totalAbs ws) h
+
+-- a member of none of three lists, or of one of them
+sorted : (L : ℕ → List ℕ) (i : ℕ) → ((c : ℕ) × (c < 3) × (i ∈ L c)) ⊎ ((c : ℕ) → c < 3 → i ∈ L c → ⊥)
+sorted L i =
+    elim (tested (any (eqb i) (L 0))) [
+      | inl a ↦ inl (0, omega arith, held 0 a)
+      | inr a ↦
+          elim (tested (any (eqb i) (L 1))) [
+            | inl b ↦ inl (1, omega arith, held 1 b)
+            | inr b ↦ elim (tested (any (eqb i) (L 2))) [ inl d ↦ inl (2, omega arith, held 2 d) | inr d ↦ inr (none-of a b d) ]
+          ]
+    ]
+  where
+    held : (c : ℕ) → any (eqb i) (L c) ≡ true → i ∈ L c
+    held c e = let a = any-true (eqb i) (L c) e in subst (λ (j : ℕ). j ∈ L c) (sym (eqb-true i (a .0) (a .2))) (a .1)
+
+    not-in : (c : ℕ) → any (eqb i) (L c) ≡ false → i ∈ L c → ⊥
+    not-in c e m = clash (eq-eqb i i refl) (any-false (eqb i) (L c) e m)
+
+    none-of : any (eqb i) (L 0) ≡ false → any (eqb i) (L 1) ≡ false → any (eqb i) (L 2) ≡ false → (c : ℕ) → c < 3 → i ∈ L c → ⊥
+    none-of a b d zero h m = not-in 0 a m
+    none-of a b d (suc zero) h m = not-in 1 b m
+    none-of a b d (suc (suc zero)) h m = not-in 2 d m
+    none-of a b d (suc (suc (suc c))) h m = absurd (omega arith)
+
+module _ (n : ℕ) (ts ls : List ℕ) (ws₀ : List ℤ) (len : length ws₀ ≡ weightsLength n) (ws bs s : List ℤ) (sum count full t : ℕ)
+    (S : State n ts ls ws₀ ws bs s sum count full t) where
+  above : 0 < t
+  above = omega (arith, S .positive, S .lower)
+
+  size : length ts ≡ 3 * (2 * n - 4)
+  size = S .ready .size
+
+  sphere : Sphere n (length ts / 3) (org ts) (opp ts)
+  sphere = S .ready .sphere
+
+  unit-maps : Units n ts ls
+  unit-maps = units ts ls sphere size (S .ready .realizer)
+
+  -- no fuel is wanting
+  pub more-fuel : count < 2 * n - 4
+  unfolding repairLoop
+  more-fuel =
+      elim (decLt count (2 * n - 4)) [
+        | yes h ↦ h
+        | no h ↦
+            let e : 2 * n - 4 - count ≡ 0 = omega (arith, h) in
+            absurd (repair-outcome n ts ls (sphere .least) size unit-maps ws₀ len .ends (ap ending (sym (rw e at (S .rest))) ∙ spent))
+      ]
+    where
+      ending : RepairState → Ending
+      ending m = m .ending
+
+      spent : repairLoop n ts ls 0 ws (S .raises) .ending ≡ outOfFuel
+      spent = refl
+
+  fuel : 2 * n - 4 - count ≡ suc (2 * n - 4 - (count + 1))
+  fuel = omega (arith, more-fuel)
+
+  -- what is drawn is within the limit
+  pub within : row10 bs ≡ false
+  within = drawn-within n ts ls unit-maps size ws bs (S .long) (light-9 ws (S .light)) (S .drawn)
+
+  -- ---- the two ends
+
+  pub at-finished : 2 * n - 4 ≤ t → repair n ts ls ws₀ ≡ record { ending = finished; weights = ws; raises = S .raises }
+  at-finished h =
+      let none-bad : first (bad ts ls (forward n ts ls ws)) (inner ts) ≡ none =
+      rw (inner-range n ts size) (first-not (bad ts ls (forward n ts ls ws)) 1 (weightsLength n)
+      (λ i a b. S .before i (omega arith) (omega (arith, sphere .least)))) in
+      sym (rw fuel at (S .rest)) ∙ turn-finished n ts ls (2 * n - 4 - (count + 1)) ws (S .raises) none-bad
+
+  module _ (k : t < 2 * n - 4) (x : ℤ) (ex : x ≡ raiseAt (tablesOf s) bs t) where
+    inside : t < length ts / 3
+    inside = omega (arith, size)
+
+    is-raise : x ≡ raise ts ls (forward n ts ls ws) t
+    is-raise = ex ∙ tells-raise n ts ls s (S .ready) ws bs (S .drawn) t above k
+
+    is-first : first (bad ts ls (forward n ts ls ws)) (inner ts) ≡ some t
+    is-first =
+        rw (inner-range n ts size)
+        (first-at (bad ts ls (forward n ts ls ws)) 1 (weightsLength n) t above (omega (arith, k)) (λ i a b. S .before i (omega arith) b) (S .here k))
+
+    pub at-stopped : limit < totalAbs (addTo ws t x) → repair n ts ls ws₀ ≡ record { ending = stopped; weights = ws; raises = S .raises }
+    at-stopped h =
+        sym (rw fuel at (S .rest))
+        ∙ turn-stopped n ts ls (2 * n - 4 - (count + 1)) ws (S .raises) t is-first
+        (rw is-raise at (lt-ltb limit (totalAbs (addTo ws t x)) h))
+
+    -- ---- a raise
+
+    module _ (h : totalAbs (addTo ws t x) ≤ limit) (bs′ : List ℤ) (M : Moved n (unit0 n ts ls t) (unit1 n ts ls t) x bs bs′) where
+      abbrev after : List ℤ
+      after = addTo ws t x
+
+      long-after : length after ≡ weightsLength n
+      long-after = length-addTo ws t x ∙ S .long
+
+      drawn-after : Drawn n ts ls after bs′
+      drawn-after = moved-drawn n ts ls unit-maps size ws (S .long) t above inside x bs bs′ (S .drawn) M
+
+      pub within-after : row10 bs′ ≡ false
+      within-after = drawn-within n ts ls unit-maps size after bs′ long-after (light-9 after h) drawn-after
+
+      -- what was extended, and the raised triangle, are extended afterwards, and so not bad
+      extended-after : (full′ : ℕ) → Passed full t full′ → (i : ℕ) → 0 < i → i < full′ → Extended ts ls (forward n ts ls after) i
+      extended-after full′ Q i p q =
+          let one = bad-raise n ts ls size unit-maps ws (S .long) t above inside (S .here k) in
+          let up : pos 0 ≤ℤ x = rw is-raise (omega (int, zpos 0, zpos 1)) in
+          elim (Q .each i q) [
+            | inl l ↦ raise-keeps n ts ls size unit-maps ws (S .long) t above inside x up i p (omega (arith, size, S .lower)) (S .extended i p l)
+            | inr e ↦ rw (e, is-raise) (raise-extends n ts ls size unit-maps ws (S .long) t above inside)
+          ]
+
+      fine-after : (full′ : ℕ) → Passed full t full′ → (i : ℕ) → 0 < i → i < full′ → bad ts ls (forward n ts ls after) i ≡ false
+      fine-after full′ Q i p q = good n ts ls size unit-maps after i p (omega (arith, size, Q .most)) (extended-after full′ Q i p q)
+
+      module _ (full′ t′ : ℕ) (N : Next (tablesOf s) bs′ full t (2 * n - 4) t′) (Q : Passed full t full′) where
+        bad-after : (i : ℕ) → 0 < i → i < 2 * n - 4 → badAt (tablesOf s) bs′ i ≡ bad ts ls (forward n ts ls after) i
+        bad-after i p q = tells-bad n ts ls s (S .ready) after bs′ drawn-after i p q
+
+        -- Below `low` no triangle is bad: those below `full` are extended, those on a line have been looked at, and the others keep their areas.
+        good-below : (i : ℕ) → 0 < i → full ≤ i → i < N .low → bad ts ls (forward n ts ls after) i ≡ false
+        good-below i p l m =
+            let q : i < 2 * n - 4 = omega (arith, N .low-most) in
+            elim (sorted (λ c. line ts ls c (length ts / 3) t) i) [
+              | inl o ↦ sym (bad-after i p q) ∙ N .clear (o .0) (o .1) i (rw (line-is n ts ls s (S .ready) (o .0) (o .1) t k) (o .2)) l m
+              | inr o ↦
+                  bad-kept n ts ls unit-maps size ws (S .long) t above inside x i p (omega (arith, size))
+                  (off-lines ts ls sphere size (S .ready .realizer) t i above inside p (omega (arith, size)) o)
+                  ∙ S .before i p (omega (arith, N .low-most))
+            ]
+
+        good-after : (i : ℕ) → 0 < i → i < t′ → bad ts ls (forward n ts ls after) i ≡ false
+        good-after i p q =
+            elim (decLt i (N .low)) [
+              | no l ↦ sym (bad-after i p (omega (arith, N .found .most))) ∙ N .found .before i (omega (arith, l)) q
+              | yes l ↦
+                  elim (decLt i full) [
+                    | yes m ↦ fine-after full′ Q i p (omega (arith, Q .least))
+                    | no m ↦ good-below i p (omega (arith, m)) l
+                  ]
+            ]
+
+        -- the next bad triangle is none of those that are extended
+        full-lower : full′ ≤ t′
+        full-lower =
+            elim (decLt t′ full′) [
+              | no l ↦ omega (arith, l)
+              | yes l ↦
+                  let p : 0 < t′ = omega (arith, S .positive, N .low-least, N .found .least) in
+                  let m : t′ < 2 * n - 4 = omega (arith, Q .most) in
+                  clash (sym (bad-after t′ p m) ∙ N .found .hit m) (fine-after full′ Q t′ p l)
+            ]
+
+        pub at-raised : (sum′ : ℕ) → sum′ ≡ totalAbs after → State n ts ls ws₀ after bs′ s sum′ (count + 1) full′ t′
+        at-raised sum′ e =
+            record {
+              ready = S .ready;
+              long = long-after;
+              light = h;
+              summed = e;
+              drawn = drawn-after;
+              raises = S .raises ++ (t ∷ []);
+              counted = omega (arith, length-append (S .raises) (t ∷ []), S .counted);
+              rest =
+                  ap (λ (y : ℤ). repairLoop n ts ls (2 * n - 4 - (count + 1)) (addTo ws t y) (S .raises ++ (t ∷ []))) is-raise
+                  ∙ sym (turn-raised n ts ls (2 * n - 4 - (count + 1)) ws (S .raises) t is-first (rw is-raise at (le-ltb limit (totalAbs after) h)))
+                  ∙ rw fuel at (S .rest);
+              positive = omega (arith, S .positive, Q .least);
+              lower = full-lower;
+              most = N .found .most;
+              extended = extended-after full′ Q;
+              before = good-after;
+              here = λ q. sym (bad-after t′ (omega (arith, S .positive, N .low-least, N .found .least)) q) ∙ N .found .hit q;
+            }
+
+-- before the first raise
+pub at-start : (n : ℕ) (ts ls : List ℕ) (ws₀ bs s : List ℤ) (sum t : ℕ) → length ws₀ ≡ weightsLength n → totalAbs ws₀ ≤ limit →
+    sum ≡ totalAbs ws₀ →
+    bs ≡ forward n ts ls ws₀ → Ready n ts ls s → Found (badAt (tablesOf s) bs) 1 (2 * n - 4) t → State n ts ls ws₀ ws₀ bs s sum 0 1 t
+unfolding repair
+at-start n ts ls ws₀ bs s sum t len light summed drawn Y F =
+    record {
+      ready = Y;
+      long = len;
+      light = light;
+      summed = summed;
+      drawn = D;
+      raises = [];
+      counted = refl;
+      rest = let e : 2 * n - 4 - 0 ≡ 2 * n - 4 = omega arith in ap (λ (k : ℕ). repairLoop n ts ls k ws₀ []) e;
+      positive = omega arith;
+      lower = F .least;
+      most = F .most;
+      extended = λ i p q. absurd (omega arith);
+      before = λ i p q. sym (tells-bad n ts ls s Y ws₀ bs D i p (omega (arith, F .most))) ∙ F .before i p q;
+      here = λ q. sym (tells-bad n ts ls s Y ws₀ bs D t (F .least) q) ∙ F .hit q;
+    }
+  where
+    D : Drawn n ts ls ws₀ bs
+    D = rw drawn (drawn-first n ts ls (units ts ls (Y .sphere) (Y .size) (Y .realizer)) (Y .size) ws₀ len (light-9 ws₀ light))

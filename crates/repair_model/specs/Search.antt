@@ -1,0 +1,212 @@
+-- The next bad triangle, looked for by number and on the walks of the triangle last raised: the tests and steps that the code makes on scratch and
+-- coordinates, that they are the definition's on a mesh laid out for repair, and what a search in order finds. Assumes nothing.
+use Prim.Native.Nat.{ℕ, zero, suc, _+_, _-_, _*_, _/_, _≤_, _<_}
+use mathlib.Core.Path.{_≡_, refl, sym, ap, _∙_}
+use mathlib.Core.Logic.{_≢_, inl, inr}
+use mathlib.Core.Bool.{Bool, true, false, cond}
+use mathlib.Core.List.{List, [], _∷_}
+use mathlib.Core.Option.{none, some}
+use native.Mathlib.Omega.{arith}
+use native.Mathlib.Decide.{ℕ-discrete}
+use lib.Dec.{eqb}
+use lib.ListN.{length}
+use lib.IntN.{ℤ, _+ℤ_}
+use borrow.Author.Tests.{ne-eqb}
+use Rattle.definitions.specs.Lists.{range, first}
+use Rattle.definitions.specs.Mesh.{trianglesLength, tri, next, prev, org, tip, opp}
+use Rattle.definitions.specs.Labels.{outer, label, corner}
+use Rattle.definitions.specs.Backward.{coordinate}
+use Rattle.definitions.specs.Repair.{bad, raise}
+use Rattle.laws.specs.Lists.{_∈_, tested}
+use Rattle.theory_sphere.specs.Sphere.{Sphere}
+use Rattle.theory_sphere.specs.Darts.{next-next, next-prev, next-below, prev-below}
+use Rattle.theory_realizer.specs.Realizer.{Realizer}
+use Rattle.theory_realizer.specs.Units.{vertexAt}
+use Rattle.theory_repair.specs.RegionBorders.{line-on}
+use Rattle.theory_repair.specs.AllWalks.{beyond, line}
+use Rattle.scratch_tables.specs.Tables.{Tables}
+use Rattle.labels_tables.specs.LabelledTables.{oppositeIn, labelIn}
+use Rattle.repair_area.specs.Areas.{badOf, raiseOf, Agree, bad-of, raise-of}
+use Rattle.repair_model.specs.PackedWords.{dart-low, pack, field0, field1, field2, field0-is, field1-is, field2-is, apexCorner, walkDart, endFlags}
+use Rattle.repair_model.specs.PackedWords.{cornerWord, otherWalksWord}
+use Rattle.repair_model.specs.Corners.{apex-is, apex-below}
+use Rattle.repair_model.specs.PreorderWords.{moveWord, Preordered}
+
+-- triangle t is bad; the raise that it asks for
+unfoldable pub badAt : Tables → List ℤ → ℕ → Bool
+unfolding badOf field0 field1 field2
+badAt S bs t = let w = S .op (3 * t + 1) in badOf bs (field0 w) (field1 w) (field2 w)
+
+unfoldable pub raiseAt : Tables → List ℤ → ℕ → ℤ
+unfolding raiseOf field0 field1 field2
+raiseAt S bs t = let w = S .op (3 * t + 1) in raiseOf bs (field0 w) (field1 w) (field2 w)
+
+-- the next triangle on the walk of colour c, which ends in the outer one
+unfoldable pub nextOn : Tables → ℕ → ℕ → ℕ
+unfolding field0 field1
+nextOn S c t = cond (eqb t 0) 0 (cond (eqb c 2) (field0 (S .op (3 * t))) (cond (eqb c 0) (field0 (S .op (3 * t + 2))) (field1 (S .op (3 * t + 2)))))
+
+-- t, and those after it until the outer triangle, of k at most
+unfoldable pub lineOn : Tables → ℕ → ℕ → ℕ → List ℕ
+unfolding nextOn
+lineOn S c zero t = []
+lineOn S c (suc k) t = elim (eqb t 0) [ true ↦ [] | false ↦ t ∷ lineOn S c k (nextOn S c t) ]
+
+pub lineOn-on : (S : Tables) (c k t : ℕ) → t ≢ 0 → lineOn S c (suc k) t ≡ t ∷ lineOn S c k (nextOn S c t)
+unfolding lineOn
+lineOn-on S c k t d = ap (λ (x : Bool). elim x [ true ↦ [] | false ↦ t ∷ lineOn S c k (nextOn S c t) ]) (ne-eqb t 0 d)
+
+-- r is the first number from a on, and below b, that passes the test; b, if none does
+pub record Found (p : ℕ → Bool) (a b r : ℕ) : Type 0 where
+  pub least : a ≤ r
+  pub most : r ≤ b
+  pub before : (i : ℕ) → a ≤ i → i < r → p i ≡ false
+  pub hit : r < b → p r ≡ true
+
+-- what a search after a raise of t finds: on its walks no triangle from `full` on and below `low` is bad, and r is the first bad one from `low` on
+pub record Next (S : Tables) (bs : List ℤ) (full t to r : ℕ) : Type 0 where
+  pub low : ℕ
+  pub low-least : full ≤ low
+  pub low-most : low ≤ t
+  pub clear : (c : ℕ) → c < 3 → (g : ℕ) → g ∈ lineOn S c to t → full ≤ g → g < low → badAt S bs g ≡ false
+  pub found : Found (badAt S bs) low to r
+
+-- ---- the first of a run
+
+pub first-at : (p : ℕ → Bool) (a k t : ℕ) → a ≤ t → t < a + k → ((i : ℕ) → a ≤ i → i < t → p i ≡ false) → p t ≡ true →
+    first p (range a k) ≡ some t
+unfolding first range
+first-at p a zero t h l b e = absurd (omega arith)
+first-at p a (suc k) t h l b e =
+    elim (ℕ-discrete a t) [
+      | yes q ↦ rw (ap p q ∙ e) (ap some q)
+      | no q ↦ rw (b a (omega arith) (omega arith)) (first-at p (suc a) k t (omega arith) (omega arith) (λ i m n. b i (omega arith) n) e)
+    ]
+
+pub first-not : (p : ℕ → Bool) (a k : ℕ) → ((i : ℕ) → a ≤ i → i < a + k → p i ≡ false) → first p (range a k) ≡ none
+unfolding first range
+first-not p a zero b = refl
+first-not p a (suc k) b = rw (b a (omega arith) (omega arith)) (first-not p (suc a) k (λ i m n. b i (omega arith) (omega arith)))
+
+-- ---- the walks
+
+-- steps that are the definition's make the same walk
+pub otherWalks-are : (ts ls : List ℕ) (S : Tables) (c : ℕ) → ((u : ℕ) → 0 < u → u < length ts / 3 → nextOn S c u ≡ beyond ts ls c u) →
+    ((u : ℕ) → 0 < u → u < length ts / 3 → beyond ts ls c u < length ts / 3) → (k t : ℕ) → t < length ts / 3 →
+    lineOn S c k t ≡ line ts ls c k t
+unfolding lineOn line
+otherWalks-are ts ls S c same stay zero t h = refl
+otherWalks-are ts ls S c same stay (suc k) t h =
+    elim (ℕ-discrete t 0) [
+      | yes z ↦ rw z
+      | no z ↦
+          let p : 0 < t = omega arith in
+          lineOn-on S c k t z ∙ ap (λ (u : ℕ). t ∷ lineOn S c k u) (same t p h)
+          ∙ ap (λ (us : List ℕ). t ∷ us) (otherWalks-are ts ls S c same stay k (beyond ts ls c t) (stay t p h)) ∙ sym (line-on ts ls c k t z)
+    ]
+
+-- the lowest part of a word, whatever stands above it
+lowest : (a b c d w : ℕ) → w ≡ pack a b c d → a < 65536 → field0 w ≡ a
+unfolding field0 pack
+lowest a b c d w e h = omega arith
+
+-- where the colour-2 walk goes, whichever subtree its word tells of
+move-to : (ts : List ℕ) (T : Tables) (from0 size0 from1 size1 : ℕ → ℕ) (t w : ℕ) → w ≡ moveWord ts T from0 size0 from1 size1 t →
+    field0 w ≡ tri (walkDart (T .op) t)
+unfolding moveWord
+move-to ts T from0 size0 from1 size1 t w e =
+    let o = walkDart (T .op) t in
+    let a = org ts o in
+    let b = tip ts o in
+    let f = endFlags T o a b in
+    let l : tri o < 65536 = dart-low (T .op) (next (apexCorner (T .op) t)) in
+    elim (tested (eqb f 1)) [
+      | inl p ↦ lowest (tri o) (from0 a) (size0 a) 1 w (e ∙ rw p) l
+      | inr p ↦
+          elim (tested (eqb f 2)) [
+            | inl q ↦ lowest (tri o) (from1 b) (size1 b) 2 w (e ∙ rw (p, q)) l
+            | inr q ↦ lowest (tri o) a b f w (e ∙ rw (p, q)) l
+          ]
+    ]
+
+-- ---- on a mesh that is laid out
+
+module _ (n : ℕ) (ts ls : List ℕ) (T S : Tables) (size : length ts ≡ trianglesLength n) (sph : Sphere n (length ts / 3) (org ts) (opp ts))
+    (R : Realizer n (length ts / 3) (org ts) (opp ts) (label ls) (outer ts)) (across-is : (d : ℕ) → d < length ts → oppositeIn (T .op) d ≡ opp ts d)
+    (tag-is : (d : ℕ) → d < length ts → labelIn (T .op) d ≡ label ls d) (P : Preordered n ts T S) (t : ℕ) (h : 0 < t) (k : t < 2 * n - 4) where
+  whole : length ts ≡ 3 * (length ts / 3)
+  whole = omega (arith, size)
+
+  inside : t < length ts / 3
+  inside = omega (arith, size)
+
+  abbrev g : ℕ
+  g = apexCorner (T .op) t
+
+  corners-at : (corner ls t 2 ≡ g) × (corner ls t 0 ≡ next g) × (corner ls t 1 ≡ prev g)
+  corners-at = apex-is ts ls sph whole R (T .op) across-is tag-is t h inside
+
+  below : (g < 3 * (length ts / 3)) × (next g < 3 * (length ts / 3)) × (prev g < 3 * (length ts / 3))
+  below =
+      let b = apex-below ts ls sph whole R (T .op) across-is tag-is t h inside .below in
+      (b, next-below (length ts / 3) g b, prev-below (length ts / 3) g b)
+
+  -- the triangles beyond it
+  beyond-are : (beyond ts ls 0 t ≡ tri (opp ts (prev g))) × (beyond ts ls 1 t ≡ tri (opp ts g)) × (beyond ts ls 2 t ≡ tri (opp ts (next g)))
+  unfolding beyond
+  beyond-are = rw (corners-at .0, corners-at .1, corners-at .2, next-next g, next-prev g) (refl, refl, refl)
+
+  across-at : (d : ℕ) → d < 3 * (length ts / 3) → oppositeIn (T .op) d ≡ opp ts d
+  across-at d b = across-is d (omega (arith, b, whole))
+
+  inner : t ≢ 0
+  inner z = absurd (omega (arith, h, z))
+
+  -- the words lead there
+  pub next-is : (c : ℕ) → c < 3 → nextOn S c t ≡ beyond ts ls c t
+  unfolding nextOn walkDart otherWalksWord
+  next-is zero b =
+      rw (ne-eqb t 0 inner)
+      (lowest (tri (oppositeIn (T .op) (prev g))) (tri (oppositeIn (T .op) g)) 0 0 (S .op (3 * t + 2)) (P .walksPacked .otherWalks t h k) (dart-low (T .op) (prev g))
+      ∙ ap tri (across-at (prev g) (below .2)) ∙ sym (beyond-are .0))
+  next-is (suc zero) b =
+      rw (ne-eqb t 0 inner)
+      (field1-is (tri (oppositeIn (T .op) (prev g))) (tri (oppositeIn (T .op) g)) 0 0 (S .op (3 * t + 2)) (P .walksPacked .otherWalks t h k) (dart-low (T .op) (prev g))
+      (dart-low (T .op) g)
+      (omega arith)
+      ∙ ap tri (across-at g (below .0)) ∙ sym (beyond-are .1))
+  next-is (suc (suc zero)) b =
+      rw (ne-eqb t 0 inner)
+      (move-to ts T (P .from0) (P .size0) (P .from1) (P .size1) t (S .op (3 * t)) (P .moves t h k) ∙ ap tri (across-at (next g) (below .1))
+      ∙ sym (beyond-are .2))
+  next-is (suc (suc (suc c))) b = absurd (omega arith)
+
+  -- the vertices at its corners
+  module _ (low : (d : ℕ) → org ts d < 65536) where
+    pub corners-are :
+        (field0 (S .op (3 * t + 1)) ≡ vertexAt ts ls t 0) × (field1 (S .op (3 * t + 1)) ≡ vertexAt ts ls t 1)
+        × (field2 (S .op (3 * t + 1)) ≡ vertexAt ts ls t 2)
+    unfolding cornerWord
+    corners-are =
+        let w = S .op (3 * t + 1) in
+        let e = P .corners t h k in
+        let p = org ts (next g) in
+        let q = org ts (prev g) in
+        let r = org ts g in (
+          field0-is p q r 0 w e (low (next g)) (low (prev g)) (low g) ∙ sym (ap (org ts) (corners-at .1)),
+          field1-is p q r 0 w e (low (next g)) (low (prev g)) (low g) ∙ sym (ap (org ts) (corners-at .2)),
+          field2-is p q r 0 w e (low (next g)) (low (prev g)) (low g) ∙ sym (ap (org ts) (corners-at .0)),
+        )
+
+    -- Coordinates bs of which only the first two are those of bs′ tell whether it is bad, and its raise.
+    module _ (bs bs′ : List ℤ) (same : (a : ℕ) → a < 3 → Agree bs bs′ (vertexAt ts ls t a)) where
+      pub bad-is : badAt S bs t ≡ bad ts ls bs′ t
+      unfolding badAt
+      bad-is = let c = corners-are in rw (c .0, c .1, c .2) (bad-of ts ls bs bs′ t same)
+
+      pub raise-is : (N : ℤ) →
+          ((a : ℕ) → a < 3 → coordinate bs′ 0 (vertexAt ts ls t a) +ℤ coordinate bs′ 1 (vertexAt ts ls t a) +ℤ coordinate bs′ 2
+          (vertexAt ts ls t a) ≡ N) →
+          raiseAt S bs t ≡ raise ts ls bs′ t
+      unfolding raiseAt
+      raise-is N total = let c = corners-are in rw (c .0, c .1, c .2) (raise-of ts ls bs bs′ N t same total)

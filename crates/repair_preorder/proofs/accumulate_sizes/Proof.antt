@@ -1,0 +1,46 @@
+-- `repair_preorder::accumulate_sizes` meets its contract. The loop's invariant: so many steps of the pass are done. Assumes nothing.
+use borrow.Author.Needs.{needs}
+use native.Mathlib.Omega.{arith}
+use mathlib.Core.Path.{_≡_, refl}
+use Prim.Native.Nat.{_-_, _≤_}
+use Rattle.repair_preorder.specs.Model.{upward, addSize}
+use Rattle.repair_preorder.specs.LoopInvariants.{Up, up-next, up-passable, parent-low, odd-add}
+use Rattle.repair_preorder.proofs.accumulate_sizes.Statement.{statement}
+use Rattle.repair_preorder.proofs.accumulate_sizes.Tie as tie
+
+abbrev Inv-loop : tie.InvT-loop
+Inv-loop n s₀ colour k₀ s k = (k ≤ n - 2) × Up (addSize colour) s₀ s k
+
+abbrev μ-loop : tie.MeasureT-loop
+μ-loop n s₀ colour k₀ s k = n - 2 - k
+
+loop-holds : tie.Need-loop-holds Inv-loop μ-loop
+unfolding upward
+loop-holds c = (omega arith, record { long = refl; is = refl })
+
+add-size-requires : tie.Need-add-size-requires Inv-loop μ-loop
+add-size-requires c κs = let a = c .before .before .before .args in let l = c .before .before .loop in
+    let P = up-passable (addSize (a .colour)) (a .s .now) (l .s) (l .k) (l .inv .1) (a .n) (odd-add (a .colour)) (c .before .before .before .pre) in
+    (omega (arith, P .few, c .before .loop-test .taken), omega (arith, parent-low (a .colour) (l .k) P (c .before .loop-test .taken), P .room))
+
+loop-again : tie.Need-loop-again Inv-loop μ-loop
+loop-again c = search (addSize, up-next, needs)
+
+returns : tie.Need-returns Inv-loop μ-loop
+returns c = let e : c .before .loop .k ≡ c .before .before .args .n - 2 = omega (arith, c .before .loop .inv .0, c .loop-test .left) in
+    rw e at (c .before .loop .inv .1 .is)
+
+pub accumulate-sizes-spec : {M : Type 1} → statement M
+accumulate-sizes-spec =
+    tie.close
+    (tie.spec
+    Inv-loop
+    μ-loop
+    loop-holds
+    (λ c. search needs)
+    add-size-requires
+    (λ c. search needs)
+    (λ c. search needs)
+    loop-again
+    (λ c. search needs)
+    returns)

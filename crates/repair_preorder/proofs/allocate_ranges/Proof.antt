@@ -1,0 +1,50 @@
+-- `repair_preorder::allocate_ranges` meets its contract. The loop's invariant: the rest of the pass gives what the whole gives. Assumes nothing.
+use borrow.Author.Needs.{needs}
+use native.Mathlib.Omega.{arith}
+use Prim.Native.Nat.{_-_}
+use Rattle.repair_preorder.specs.Model.{allocateRange}
+use Rattle.repair_preorder.specs.LoopInvariants.{Down, down-next, down-ends, down-passable, parent-low, odd-takes}
+use Rattle.repair_preorder.proofs.allocate_ranges.Statement.{statement}
+use Rattle.repair_preorder.proofs.allocate_ranges.Tie as tie
+
+abbrev Inv-loop : tie.InvT-loop
+Inv-loop n s₀ colour k₀ s k = Down (allocateRange colour) (n - 2) s₀ s k
+
+abbrev μ-loop : tie.MeasureT-loop
+μ-loop n s₀ colour k₀ s k = k
+
+sub-k : tie.Need-sub-k Inv-loop μ-loop
+sub-k c = omega (arith, c .pre .some)
+
+sub-k-2 : tie.Need-sub-k-2 Inv-loop μ-loop
+sub-k-2 c = c .loop-test .taken
+
+allocate-range-requires : tie.Need-allocate-range-requires Inv-loop μ-loop
+allocate-range-requires c κs = let a = c .before .before .before .args in let l = c .before .before .loop in
+    let P = down-passable (allocateRange (a .colour)) (a .n - 2) (a .s .now) (l .s) (l .k) (l .inv) (a .n) (c .before .before .before .pre) in (
+      omega (arith, P .few, l .inv .low),
+      omega (arith, P .removed (l .k - 1) (omega (arith, l .inv .low, c .before .loop-test .taken)), P .room),
+      omega (arith, parent-low (a .colour) (l .k - 1) P (omega (arith, l .inv .low, c .before .loop-test .taken)), P .room),
+    )
+
+loop-again : tie.Need-loop-again Inv-loop μ-loop
+loop-again c = search (allocateRange, down-next, odd-takes)
+
+returns : tie.Need-returns Inv-loop μ-loop
+returns c = let a = c .before .before .args in let l = c .before .loop in
+    down-ends (allocateRange _) (a .n - 2) _ (l .s) (l .k) (l .inv) (omega (arith, c .loop-test .left))
+
+pub allocate-ranges-spec : {M : Type 1} → statement M
+allocate-ranges-spec =
+    tie.close
+    (tie.spec
+    Inv-loop
+    μ-loop
+    sub-k
+    (λ c. search needs)
+    sub-k-2
+    allocate-range-requires
+    (λ c. search needs)
+    loop-again
+    (λ c. search needs)
+    returns)

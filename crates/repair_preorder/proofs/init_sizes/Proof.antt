@@ -1,0 +1,42 @@
+-- `repair_preorder::init_sizes` meets its contract. The loop's invariant: the vertices passed bear a 1. Assumes nothing.
+use borrow.Author.Needs.{needs}
+use native.Mathlib.Omega.{arith}
+use mathlib.Core.Path.{_≡_, refl}
+use Prim.Native.Nat.{_-_, _≤_}
+use Rattle.repair_preorder.specs.Model.{upward, initSize}
+use Rattle.repair_preorder.specs.LoopInvariants.{Up, up-next}
+use Rattle.repair_preorder.proofs.init_sizes.Statement.{statement}
+use Rattle.repair_preorder.proofs.init_sizes.Tie as tie
+
+abbrev Inv-loop : tie.InvT-loop
+Inv-loop n s₀ v₀ s v = (v ≤ n) × Up initSize s₀ s v
+
+abbrev μ-loop : tie.MeasureT-loop
+μ-loop n s₀ v₀ s v = n - v
+
+loop-holds : tie.Need-loop-holds Inv-loop μ-loop
+unfolding upward
+loop-holds c = (omega arith, record { long = refl; is = refl })
+
+loop-again : tie.Need-loop-again Inv-loop μ-loop
+unfolding initSize
+loop-again c = search (initSize, up-next, needs)
+
+returns : tie.Need-returns Inv-loop μ-loop
+returns c = let e : c .before .loop .v ≡ c .before .before .args .n = omega (arith, c .before .loop .inv .0, c .loop-test .left) in
+    rw e at (c .before .loop .inv .1 .is)
+
+pub init-sizes-spec : {M : Type 1} → statement M
+init-sizes-spec =
+    tie.close
+    (tie.spec
+    Inv-loop
+    μ-loop
+    loop-holds
+    (λ c. search needs)
+    (λ c κs. search needs)
+    (λ c. search needs)
+    (λ c. search needs)
+    loop-again
+    (λ c. search needs)
+    returns)

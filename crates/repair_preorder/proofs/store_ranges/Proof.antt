@@ -1,0 +1,42 @@
+-- `repair_preorder::store_ranges` meets its contract. The loop's invariant: so many triangles are done, the outer one among them. Assumes nothing.
+use borrow.Author.Needs.{needs}
+use native.Mathlib.Omega.{arith}
+use mathlib.Core.Path.{_≡_}
+use Prim.Native.Nat.{_-_, _*_, _≤_}
+use Rattle.repair_preorder.specs.Model.{upward, storeRange}
+use Rattle.repair_preorder.specs.LoopInvariants.{Up, up-next}
+use Rattle.repair_preorder.proofs.store_ranges.Statement.{statement}
+use Rattle.repair_preorder.proofs.store_ranges.Tie as tie
+
+abbrev Inv-loop : tie.InvT-loop
+Inv-loop n s₀ colour t₀ s t = (1 ≤ t) × (t ≤ 2 * n - 4) × Up (storeRange colour) s₀ s t
+
+abbrev μ-loop : tie.MeasureT-loop
+μ-loop n s₀ colour t₀ s t = 2 * n - 4 - t
+
+loop-holds : tie.Need-loop-holds Inv-loop μ-loop
+unfolding upward storeRange
+loop-holds c = search needs
+
+loop-again : tie.Need-loop-again Inv-loop μ-loop
+loop-again c = search (storeRange, up-next, needs)
+
+returns : tie.Need-returns Inv-loop μ-loop
+returns c = let e : c .before .loop .t ≡ 2 * c .before .before .args .n - 4 = omega (arith, c .before .loop .inv .1, c .loop-test .left) in
+    rw e at (c .before .loop .inv .2 .is)
+
+pub store-ranges-spec : {M : Type 1} → statement M
+store-ranges-spec =
+    tie.close
+    (tie.spec
+    Inv-loop
+    μ-loop
+    loop-holds
+    (λ c. search needs)
+    (λ c. search needs)
+    (λ c κs. search needs)
+    (λ c. search needs)
+    (λ c. search needs)
+    loop-again
+    (λ c. search needs)
+    returns)

@@ -1,0 +1,6 @@
+-- How the preorders are made in scratch.
+pub mod Model
+pub mod LoopInvariants
+pub mod PreorderBuilt
+pub mod RootedForest
+pub mod ForestOfMesh

@@ -1,0 +1,41 @@
+-- `repair_search::first_bad` meets its contract. The loop's invariant: no triangle passed is bad. Assumes nothing.
+use borrow.Author.Needs.{needs}
+use mathlib.Core.Path.{_∙_, sym}
+use Prim.Native.Nat.{_-_}
+use Rattle.scratch_tables.specs.Tables.{tablesOf}
+use Rattle.repair_model.specs.Search.{badAt}
+use Rattle.repair_search.specs.SearchLoops.{Sought, sought-none, sought-more, found-here, found-nowhere}
+use Rattle.repair_search.proofs.first_bad.Statement.{statement}
+use Rattle.repair_search.proofs.first_bad.Tie as tie
+
+abbrev Inv-loop : tie.InvT-loop
+Inv-loop s coordinates from to i₀ i = Sought (badAt (tablesOf s) coordinates) from to i
+
+abbrev μ-loop : tie.MeasureT-loop
+μ-loop s coordinates from to i₀ i = to - i
+
+loop-holds : tie.Need-loop-holds Inv-loop μ-loop
+loop-holds c = search (tablesOf, badAt, sought-none)
+
+returns : tie.Need-returns Inv-loop μ-loop
+returns c = found-here (badAt (tablesOf _) _) _ _ _ (search) (search) (sym (search) ∙ c .if1 .taken)
+
+loop-again : tie.Need-loop-again Inv-loop μ-loop
+loop-again c = sought-more (badAt (tablesOf _) _) _ _ _ (search) (search) (sym (search) ∙ c .if1 .left)
+
+returns-2 : tie.Need-returns-2 Inv-loop μ-loop
+returns-2 c = search (tablesOf, badAt, found-nowhere)
+
+pub first-bad-spec : {M : Type 1} → statement M
+first-bad-spec =
+    tie.close
+    (tie.spec
+    Inv-loop
+    μ-loop
+    loop-holds
+    (λ c κs. search needs)
+    returns
+    (λ c. search needs)
+    (λ c. search needs)
+    loop-again
+    returns-2)

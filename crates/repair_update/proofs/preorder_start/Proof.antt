@@ -1,0 +1,14 @@
+-- `repair_update::preorder_start` meets its contract: one of two columns. Assumes nothing.
+use Rattle.repair_update.specs.WalkLoop.{row-left, row-right}
+use borrow.Author.Needs.{needs}
+use Rattle.repair_update.proofs.preorder_start.Statement.{statement}
+use Rattle.repair_update.proofs.preorder_start.Tie as tie
+
+returns : tie.Need-returns
+returns c = search (row-left, needs)
+
+returns-2 : tie.Need-returns-2
+returns-2 c = search (row-right, needs)
+
+pub preorder-start-spec : {M : Type 1} → statement M
+preorder-start-spec = tie.close (tie.spec (λ c. search needs) (λ c. search needs) returns returns-2)

@@ -1,0 +1,26 @@
+-- `repair_update::step` meets its contract, from those of its calls. Assumes nothing.
+use Prim.Native.Nat.{ℕ}
+use mathlib.Core.Path.{ap, _∙_, subst}
+use mir.Facts.{toZ-ofZ}
+use Rattle.repair_model.specs.PackedWords.{field0}
+use Rattle.repair_update.specs.WalkLoop.{Movable, Followed}
+use borrow.Author.Needs.{needs}
+use Rattle.repair_update.proofs.step.Statement.{statement}
+use Rattle.repair_update.proofs.step.Tie as tie
+
+add-to-subtree-requires : tie.Need-add-to-subtree-requires
+add-to-subtree-requires c κs = let a = c .before .before .args in
+    rw (toZ-ofZ (c .before .before .fits .x)) (subst (λ (w : ℕ). Movable (a .s .now) (a .coordinates .now) w (a .x)) (cc) (c .before .before .pre .1))
+
+returns : tie.Need-returns
+returns c = let a = c .before .before .before .before .before .args in (
+  c .field0 .ensures .0 ∙ ap field0 (c .before .before .before .before .get-op .ensures .0),
+  subst (λ (w : ℕ). Followed (a .s .now) w (a .x) (a .coordinates .now) (c .before .before .add-to-subtree .last .1 .0))
+      (c .before .before .before .before .get-op .ensures .0)
+      (rw (toZ-ofZ (c .before .before .before .before .before .fits .x)) at (c .before .before .add-to-subtree .ensures)),
+)
+
+pub step-spec : {M : Type 1} → statement M
+step-spec =
+    tie.close
+    (tie.spec (λ c. search needs) (λ c κs. search needs) add-to-subtree-requires (λ c κs. search needs) (λ c. search needs) returns)

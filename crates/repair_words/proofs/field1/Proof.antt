@@ -1,0 +1,12 @@
+-- `repair_words::field1` meets its contract. Assumes nothing.
+use borrow.Author.Needs.{needs}
+use Rattle.repair_model.specs.PackedWords.{field1}
+use Rattle.repair_words.proofs.field1.Statement.{statement}
+use Rattle.repair_words.proofs.field1.Tie as tie
+
+returns : tie.Need-returns
+unfolding field1
+returns c = search needs
+
+pub field1-spec : {M : Type 1} → statement M
+field1-spec = tie.close (tie.spec returns)

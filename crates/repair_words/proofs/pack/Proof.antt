@@ -1,0 +1,14 @@
+-- `repair_words::pack` meets its contract. Assumes nothing.
+use Rattle.repair_model.specs.PackedWords.{pack}
+use borrow.Author.Needs.{needs}
+use Rattle.repair_words.proofs.pack.Statement.{statement}
+use Rattle.repair_words.proofs.pack.Tie as tie
+
+returns : tie.Need-returns
+unfolding pack
+returns c = search needs
+
+pub pack-spec : {M : Type 1} → statement M
+pack-spec =
+    tie.close
+    (tie.spec (λ c. search needs) (λ c. search needs) (λ c. search needs) (λ c. search needs) (λ c. search needs) (λ c. search needs) returns)

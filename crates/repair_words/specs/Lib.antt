@@ -1,0 +1,2 @@
+-- What packing the words asks and gives.
+pub mod LoopInvariants

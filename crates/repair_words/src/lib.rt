@@ -1,0 +1,213 @@
+// The words that a raise reads, packed into scratch over the tables of the labels stage: one for each inner triangle's colour-2 walk, one for its corners, one
+// for its two other walks, and one for each vertex that left. Four numbers stand in a word, 16 bits for each of the first three.
+use scratch_tables::get_count;
+use scratch_tables::get_head;
+use scratch_tables::get_mark;
+use scratch_tables::next_dart;
+use scratch_tables::origin;
+use scratch_tables::prev_dart;
+use scratch_tables::set_count;
+use scratch_tables::set_head;
+use scratch_tables::set_mark;
+use scratch_tables::set_op;
+use scratch_tables::tip;
+ghost use mathlib.Core.Path.{_≡_};
+ghost use Prim.Native.Nat.{_+_, _-_, _*_, _<_, _≤_, _^_};
+ghost use lib.ListN.{length};
+ghost use Rattle.definitions.specs.Mesh.{org};
+ghost use Rattle.scratch_tables.specs.Tables.{vertexIn, tablesOf, setMark};
+ghost use Rattle.repair_model.specs.PackedWords.{pack, field0, field1, field2, field3, apexCorner, walkDart, withRim, endFlags, walkWord, cornerWord, removedWord, otherWalksWord, Packed, WalksPacked};
+ghost use Rattle.repair_words.specs.LoopInvariants.{setWords, PackPre, TrianglesPacked, RemovedPacked};
+
+// the parts of a word
+pub fn field0(w: usize) -> usize
+    ensures is { λ r. ⌜ r ≡ field0 w ⌝ }
+    ensures small { λ r. ⌜ r < 65536 ⌝ }
+{
+    w % 65536
+}
+
+pub fn field1(w: usize) -> usize
+    ensures is { λ r. ⌜ r ≡ field1 w ⌝ }
+    ensures small { λ r. ⌜ r < 65536 ⌝ }
+{
+    w / 65536 % 65536
+}
+
+pub fn field2(w: usize) -> usize
+    ensures is { λ r. ⌜ r ≡ field2 w ⌝ }
+    ensures small { λ r. ⌜ r < 65536 ⌝ }
+{
+    w / 4_294_967_296 % 65536
+}
+
+pub fn field3(w: usize) -> usize
+    ensures { λ r. ⌜ r ≡ field3 w ⌝ }
+{
+    w / 281_474_976_710_656
+}
+
+// a word of four parts
+pub fn pack(a: usize, b: usize, c: usize, d: usize) -> usize
+    requires { ⌜ (a < 65536) × (b < 65536) × (c < 65536) × (d < 4) ⌝ }
+    ensures is { λ r. ⌜ r ≡ pack a b c d ⌝ }
+    ensures small { λ r. ⌜ r < 2 ^ 63 ⌝ }
+{
+    a + 65536 * b + 4_294_967_296 * c + 281_474_976_710_656 * d
+}
+
+// the corner of triangle t with label 2
+fn apex_corner(s: &[i64], t: usize) -> usize
+    requires { ⌜ t < 65536 ⌝ }
+    ensures is { λ r. ⌜ r ≡ apexCorner (tablesOf (now (s .entry)) .op) t ⌝ }
+    ensures small { λ r. ⌜ r < 3 * t + 3 ⌝ }
+{
+    let a = labels_tables::label_of(s, 3 * t);
+    if a == 2 {
+        return 3 * t;
+    }
+    let b = labels_tables::label_of(s, 3 * t + 1);
+    if b == 2 {
+        return 3 * t + 1;
+    }
+    3 * t + 2
+}
+
+// the dart by which the walk comes from triangle t into the next one
+fn walk_dart(s: &[i64], t: usize) -> usize
+    requires { ⌜ t < 65536 ⌝ }
+    ensures is { λ r. ⌜ r ≡ walkDart (tablesOf (now (s .entry)) .op) t ⌝ }
+    ensures small { λ r. ⌜ r < 65536 ⌝ }
+{
+    let g = apex_corner(s, t);
+    labels_tables::opposite(s, next_dart(g))
+}
+
+// 1 if o, from a to b, is the dart to the left of a; and 2 if it is the dart from the right of b
+fn end_flags(s: &[i64], o: usize, a: usize, b: usize) -> usize
+    ensures is { λ r. ⌜ r ≡ endFlags (tablesOf (now (s .entry))) o a b ⌝ }
+    ensures small { λ r. ⌜ r < 4 ⌝ }
+{
+    let e = get_head(s, a);
+    let f = get_count(s, b);
+    if e == o {
+        if f == o {
+            return 3;
+        }
+        return 1;
+    }
+    if f == o {
+        return 2;
+    }
+    0
+}
+
+fn walk_word(triangles: &[u16], s: &[i64], t: usize) -> usize
+    requires { ⌜ t < 65536 ⌝ }
+    ensures is { λ r. ⌜ r ≡ walkWord (now (triangles .entry)) (tablesOf (now (s .entry))) t ⌝ }
+    ensures small { λ r. ⌜ r < 2 ^ 63 ⌝ }
+{
+    let o = walk_dart(s, t);
+    let a = origin(triangles, o);
+    let b = tip(triangles, o);
+    let f = end_flags(s, o, a, b);
+    pack(o / 3, a, b, f)
+}
+
+fn corner_word(triangles: &[u16], s: &[i64], t: usize) -> usize
+    requires { ⌜ t < 65536 ⌝ }
+    ensures is { λ r. ⌜ r ≡ cornerWord (now (triangles .entry)) (tablesOf (now (s .entry))) t ⌝ }
+    ensures small { λ r. ⌜ r < 2 ^ 63 ⌝ }
+{
+    let g = apex_corner(s, t);
+    let p = origin(triangles, next_dart(g));
+    let q = origin(triangles, prev_dart(g));
+    let r = origin(triangles, g);
+    pack(p, q, r, 0)
+}
+
+fn other_walks_word(s: &[i64], t: usize) -> usize
+    requires { ⌜ t < 65536 ⌝ }
+    ensures is { λ r. ⌜ r ≡ otherWalksWord (tablesOf (now (s .entry))) t ⌝ }
+    ensures small { λ r. ⌜ r < 2 ^ 63 ⌝ }
+{
+    let g = apex_corner(s, t);
+    let a = labels_tables::opposite(s, prev_dart(g));
+    let b = labels_tables::opposite(s, g);
+    pack(a / 3, b / 3, 0, 0)
+}
+
+fn removed_word(triangles: &[u16], s: &[i64], k: usize) -> usize
+    requires { ⌜ (k < 65536) × (tablesOf (now s) .mark (2 * k + 1) < 65536) ⌝ }
+    ensures is { λ r. ⌜ r ≡ removedWord (now (triangles .entry)) (tablesOf (now (s .entry))) k ⌝ }
+    ensures small { λ r. ⌜ r < 2 ^ 63 ⌝ }
+{
+    let v = get_mark(s, 2 * k + 1);
+    let left = tip(triangles, get_head(s, v));
+    let right = origin(triangles, get_count(s, v));
+    pack(v, left, right, 0)
+}
+
+// the three words of triangle t
+fn pack_triangle(triangles: &[u16], s: &mut [i64], t: usize)
+    requires { ⌜ (t < 65536) × (5 * t + 10 ≤ length (now s)) ⌝ }
+    ensures { λ r. ⌜ tablesOf (now (s .exit)) ≡ setWords (now (triangles .entry)) t (tablesOf (now (s .entry))) ⌝ }
+{
+    let w = walk_word(triangles, s, t);
+    let c = corner_word(triangles, s, t);
+    let l = other_walks_word(s, t);
+    set_op(s, 3 * t, w);
+    set_op(s, 3 * t + 1, c);
+    set_op(s, 3 * t + 2, l);
+}
+
+fn pack_triangles(n: usize, triangles: &[u16], s: &mut [i64])
+    requires { ⌜ PackPre n (now s) ⌝ }
+    ensures { λ r. ⌜ TrianglesPacked n (now (triangles .entry)) (tablesOf (now (s .entry))) (tablesOf (now (s .exit))) (2 * n - 4) ⌝ }
+{
+    let mut t = 1;
+    while t < 2 * n - 4 {
+        pack_triangle(triangles, s, t);
+        t += 1;
+    }
+}
+
+// the word of the k-th vertex that left
+fn pack_removed(triangles: &[u16], s: &mut [i64], k: usize)
+    requires { ⌜ (k < 65536) × (10 * k + 10 ≤ length (now s)) × (tablesOf (now s) .mark (2 * k + 1) < 65536) ⌝ }
+    ensures { λ r. ⌜ tablesOf (now (s .exit)) ≡ setMark (2 * k + 1) (removedWord (now (triangles .entry)) (tablesOf (now (s .entry))) k) (tablesOf (now (s .entry))) ⌝ }
+{
+    let w = removed_word(triangles, s, k);
+    set_mark(s, 2 * k + 1, w);
+}
+
+fn pack_all_removed(n: usize, triangles: &[u16], s: &mut [i64])
+    requires { ⌜ PackPre n (now s) ⌝ }
+    ensures { λ r. ⌜ RemovedPacked n (now (triangles .entry)) (tablesOf (now (s .entry))) (tablesOf (now (s .exit))) (n - 2) ⌝ }
+{
+    let mut k = 0;
+    while k < n - 2 {
+        pack_removed(triangles, s, k);
+        k += 1;
+    }
+}
+
+// v0 and v1, which did not leave, get the outer triangle's dart between them
+fn set_rim(triangles: &[u16], s: &mut [i64])
+    requires { ⌜ vertexIn (length (now s)) (org (now triangles) 0) × vertexIn (length (now s)) (org (now triangles) 2) ⌝ }
+    ensures { λ r. ⌜ tablesOf (now (s .exit)) ≡ withRim (now (triangles .entry)) (tablesOf (now (s .entry))) ⌝ }
+{
+    set_count(s, origin(triangles, 0), 2);
+    set_head(s, origin(triangles, 2), 2);
+}
+
+// all of them
+pub fn pack_words(n: usize, triangles: &[u16], s: &mut [i64])
+    requires { ⌜ PackPre n (now s) × (org (now triangles) 0 < n) × (org (now triangles) 2 < n) ⌝ }
+    ensures laid { λ r. ⌜ Packed n (now (triangles .entry)) (withRim (now (triangles .entry)) (tablesOf (now (s .entry)))) (tablesOf (now (s .exit))) ⌝ }
+    ensures walksPacked { λ r. ⌜ WalksPacked n (withRim (now (triangles .entry)) (tablesOf (now (s .entry)))) (tablesOf (now (s .exit))) ⌝ }
+{
+    set_rim(triangles, s);
+    pack_triangles(n, triangles, s);
+    pack_all_removed(n, triangles, s);
+}

@@ -1,0 +1,17 @@
+-- `scratch_tables::clear` meets its contract, from that of `clear_from`. Assumes nothing.
+use Rattle.scratch_tables.specs.Tables.{cleared-all}
+use borrow.Author.Needs.{needs}
+use Rattle.scratch_tables.proofs.clear.Statement.{statement}
+use Rattle.scratch_tables.proofs.clear.Tie as tie
+
+clear-from-requires : tie.Need-clear-from-requires
+clear-from-requires c κs = search needs
+
+same-length : tie.Need-same-length
+same-length c = search needs
+
+returns : tie.Need-returns
+returns c = cleared-all (c .before .before .before .args .s .now) (c .before .clear-from .last .0) (c .before .clear-from .ensures)
+
+pub clear-spec : {M : Type 1} → statement M
+clear-spec = tie.close (tie.spec clear-from-requires same-length returns)

@@ -1,0 +1,57 @@
+-- `scratch_tables::clear_from` meets its contract. The loop's invariant: the words passed are zero, and those before stand as they did. Assumes nothing.
+use native.Mathlib.Omega.{arith}
+use Prim.Native.Nat.{_-_, _≤_}
+use lib.ListN.{length, length-set}
+use Rattle.scratch_tables.specs.Tables.{Cleared, cleared-none, cleared-more, cleared-end}
+use Rattle.scratch_tables.proofs.clear_from.Statement.{statement}
+use Rattle.scratch_tables.proofs.clear_from.Tie as tie
+
+abbrev Inv-loop : tie.InvT-loop
+Inv-loop s₀ k i₀ s i = Cleared s₀ s k i × (k ≤ i)
+
+abbrev μ-loop : tie.MeasureT-loop
+μ-loop s₀ k i₀ s i = length s - i
+
+loop-holds : tie.Need-loop-holds Inv-loop μ-loop
+loop-holds c = (cleared-none (c .args .s .now) (c .args .k), omega arith)
+
+mul-s : tie.Need-mul-s Inv-loop μ-loop
+mul-s c = omega arith
+
+slice-set-of-s : tie.Need-slice-set-of-s Inv-loop μ-loop
+slice-set-of-s c = omega arith
+
+add-i : tie.Need-add-i Inv-loop μ-loop
+add-i c = omega arith
+
+loop-less : tie.Need-loop-less Inv-loop μ-loop
+loop-less c = simp length-set (omega arith)
+
+loop-again : tie.Need-loop-again Inv-loop μ-loop
+loop-again c = (
+  cleared-more (c .before .before .args .s .now) (c .before .loop .s) (c .before .before .args .k) (c .before .loop .i)
+      (c .before .loop .inv .1) (c .loop-test .taken) (c .before .loop .inv .0),
+  omega (arith, c .before .loop .inv .1),
+)
+
+same-length : tie.Need-same-length Inv-loop μ-loop
+same-length c = c .before .loop .inv .0 .long
+
+returns : tie.Need-returns Inv-loop μ-loop
+returns c = cleared-end (c .before .before .args .s .now) (c .before .loop .s) (c .before .before .args .k) (c .before .loop .i) (c .loop-test .left)
+    (c .before .loop .inv .0)
+
+pub clear-from-spec : {M : Type 1} → statement M
+clear-from-spec =
+    tie.close
+    (tie.spec
+    Inv-loop
+    μ-loop
+    loop-holds
+    mul-s
+    slice-set-of-s
+    add-i
+    loop-less
+    loop-again
+    same-length
+    returns)

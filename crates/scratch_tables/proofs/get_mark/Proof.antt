@@ -1,0 +1,31 @@
+-- `scratch_tables::get_mark` meets its contract, from those of `mark_at` and `peek`. Past the table both sides are 0. Assumes nothing.
+use native.Mathlib.Omega.{arith}
+use mathlib.Core.Path.{sym, _∙_, ap}
+use Rattle.scratch_tables.specs.Tables.{wordAt, mark-in, mark-past, mark-index}
+use lib.ListN.{length}
+use borrow.Author.Needs.{needs}
+use Rattle.scratch_tables.proofs.get_mark.Statement.{statement}
+use Rattle.scratch_tables.proofs.get_mark.Tie as tie
+
+mul-if1 : tie.Need-mul-if1
+mul-if1 c = search needs
+
+mark-index-requires : tie.Need-mark-index-requires
+mark-index-requires c κs = search needs
+
+load-requires : tie.Need-load-requires
+load-requires c κs =
+    omega (arith, c .mark-index .ensures, mark-index (length (c .before .before .args .s .now)) (c .before .before .args .t) (c .before .if1 .taken))
+
+returns : tie.Need-returns
+returns c = (
+  c .load .ensures .0 ∙ ap (wordAt (c .before .before .before .args .s .now)) (c .before .mark-index .ensures)
+      ∙ sym (mark-in (c .before .before .before .args .s .now) (c .before .before .before .args .t) (c .before .before .if1 .taken)),
+  c .load .ensures .1,
+)
+
+returns-2 : tie.Need-returns-2
+returns-2 c = (mark-past (c .before .args .s .now) (c .before .args .t) (c .if1 .left), omega arith)
+
+pub get-mark-spec : {M : Type 1} → statement M
+get-mark-spec = tie.close (tie.spec mul-if1 mark-index-requires load-requires returns returns-2)

@@ -1,0 +1,23 @@
+-- `scratch_tables::get_op` meets its contract, from that of `peek`. Past the table both sides are 0. Assumes nothing.
+use native.Mathlib.Omega.{arith}
+use mathlib.Core.Path.{sym, _∙_}
+use Rattle.scratch_tables.specs.Tables.{op-in, op-past}
+use borrow.Author.Needs.{needs}
+use Rattle.scratch_tables.proofs.get_op.Statement.{statement}
+use Rattle.scratch_tables.proofs.get_op.Tie as tie
+
+mul-if1 : tie.Need-mul-if1
+mul-if1 c = search needs
+
+load-requires : tie.Need-load-requires
+load-requires c κs = search needs
+
+returns : tie.Need-returns
+returns c =
+    (c .load .ensures .0 ∙ sym (op-in (c .before .before .args .s .now) (c .before .before .args .d) (c .before .if1 .taken)), c .load .ensures .1)
+
+returns-2 : tie.Need-returns-2
+returns-2 c = (op-past (c .before .args .s .now) (c .before .args .d) (c .if1 .left), omega arith)
+
+pub get-op-spec : {M : Type 1} → statement M
+get-op-spec = tie.close (tie.spec mul-if1 load-requires returns returns-2)

@@ -1,0 +1,28 @@
+-- `scratch_tables::origin` meets its contract. Past the end both sides are 0. Assumes nothing.
+use mathlib.Core.Path.{sym}
+use native.Mathlib.Omega.{arith}
+use lib.ListN.{List·getD-eq-default}
+use Rattle.definitions.specs.Mesh.{org}
+use borrow.Author.Needs.{needs}
+use Rattle.scratch_tables.proofs.origin.Statement.{statement}
+use Rattle.scratch_tables.proofs.origin.Tie as tie
+
+mul-widen : tie.Need-mul-widen
+mul-widen c = search needs
+
+shared-slice-read-widen : tie.Need-shared-slice-read-widen
+shared-slice-read-widen c = search needs
+
+widen-requires : tie.Need-widen-requires
+widen-requires c κs = search needs
+
+returns : tie.Need-returns
+unfolding org
+returns c = (c .widen .ensures .0, c .widen .ensures .1)
+
+returns-2 : tie.Need-returns-2
+unfolding org
+returns-2 c = (sym (List·getD-eq-default (c .before .before .args .triangles .now) 0 (c .if1 .left)), omega arith)
+
+pub origin-spec : {M : Type 1} → statement M
+origin-spec = tie.close (tie.spec mul-widen shared-slice-read-widen widen-requires returns returns-2)

@@ -1,0 +1,26 @@
+-- `scratch_tables::set_head` meets its contract, from that of `poke`. Assumes nothing.
+use mathlib.Core.Path.{_∙_, ap}
+use Rattle.scratch_tables.specs.Tables.{tablesOf, tablesOf-head}
+use borrow.Author.Needs.{needs}
+use Rattle.scratch_tables.proofs.set_head.Statement.{statement}
+use Rattle.scratch_tables.proofs.set_head.Tie as tie
+
+mul-store : tie.Need-mul-store
+mul-store c = search needs
+
+add-store : tie.Need-add-store
+add-store c = search needs
+
+store-requires : tie.Need-store-requires
+store-requires c κs = search needs
+
+same-length : tie.Need-same-length
+same-length c = search needs
+
+returns : tie.Need-returns
+returns c =
+    ap tablesOf (c .before .store .ensures) ∙ tablesOf-head (c .before .before .before .args .s .now) (c .before .before .before .args .v)
+    (c .before .before .before .args .x) (c .before .before .before .pre .0)
+
+pub set-head-spec : {M : Type 1} → statement M
+set-head-spec = tie.close (tie.spec mul-store add-store store-requires same-length returns)

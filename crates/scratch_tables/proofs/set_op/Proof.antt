@@ -1,0 +1,20 @@
+-- `scratch_tables::set_op` meets its contract, from that of `poke`. Assumes nothing.
+use mathlib.Core.Path.{_∙_, ap}
+use Rattle.scratch_tables.specs.Tables.{tablesOf, tablesOf-op}
+use borrow.Author.Needs.{needs}
+use Rattle.scratch_tables.proofs.set_op.Statement.{statement}
+use Rattle.scratch_tables.proofs.set_op.Tie as tie
+
+store-requires : tie.Need-store-requires
+store-requires c κs = search needs
+
+same-length : tie.Need-same-length
+same-length c = search needs
+
+returns : tie.Need-returns
+returns c =
+    ap tablesOf (c .before .store .ensures) ∙ tablesOf-op (c .before .before .before .args .s .now) (c .before .before .before .args .d)
+    (c .before .before .before .args .x) (c .before .before .before .pre .0)
+
+pub set-op-spec : {M : Type 1} → statement M
+set-op-spec = tie.close (tie.spec store-requires same-length returns)

@@ -1,0 +1,2 @@
+-- The four tables in the lent scratch.
+pub mod Tables

@@ -1,4 +1,0 @@
--- What the functions of rows 3 to 6 ask of the lent slices, and what is known at each turn of their loops.
-pub mod Room
-pub mod Turns
-pub mod Threes

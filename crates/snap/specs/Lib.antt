@@ -1,2 +1,0 @@
--- What the answers say, in document 01's words.
-pub mod Told

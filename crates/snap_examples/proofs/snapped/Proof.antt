@@ -1,0 +1,41 @@
+-- `snap_examples::snapped` meets its contract, by what `snap_points` ensures of the coordinates. Assumes nothing.
+use mathlib.Core.Path.{ap, _∙_}
+use mathlib.Core.List.{List}
+use lib.IntN.{ℤ, pos}
+use lib.ListN.{getD}
+use mir.Facts.{toZ-ofZ}
+use Rattle.snap_examples.specs.Seen.{wholeOf}
+use borrow.Author.Needs.{needs}
+use Rattle.snap_examples.proofs.snapped.Statement.{statement}
+use Rattle.snap_examples.proofs.snapped.Tie as tie
+
+slice-aggregate-snap-points : tie.Need-slice-aggregate-snap-points
+slice-aggregate-snap-points c = search needs
+
+slice-aggregate-snap-points-2 : tie.Need-slice-aggregate-snap-points-2
+slice-aggregate-snap-points-2 c = search needs
+
+snap-points-requires : tie.Need-snap-points-requires
+snap-points-requires c κs = search needs
+
+number-requires : tie.Need-number-requires
+number-requires c κs = search needs
+
+array-copy-out-t13 : tie.Need-array-copy-out-t13
+array-copy-out-t13 c = search needs
+
+returns : tie.Need-returns
+unfolding wholeOf
+returns c =
+    toZ-ofZ (record { sfits = c .t13 .given }) ∙ ap (λ (bs : List ℤ). getD bs 0 (pos 0)) (c .before .before .before .snap-points .ensures .1)
+
+pub snapped-spec : {M : Type 1} → statement M
+snapped-spec =
+    tie.close
+    (tie.spec
+    slice-aggregate-snap-points
+    slice-aggregate-snap-points-2
+    snap-points-requires
+    number-requires
+    array-copy-out-t13
+    returns)

@@ -1,2 +1,0 @@
--- What scratch holds once the corners of an accepted mesh are labelled.
-pub mod Stage

@@ -1,2 +1,0 @@
--- The four tables that the mesh check keeps in the lent scratch.
-pub mod Tables

@@ -1,0 +1,3 @@
+-- Iterations of the writers of numbers and lines.
+pub mod DigitLoops
+pub mod LineLoops

@@ -1,0 +1,3 @@
+-- What the writer of a listing answers, and its steps.
+pub mod Answer
+pub mod LoopInvariants

@@ -1,3 +1,0 @@
--- What the readers of lines answer.
-pub mod Outcome
-pub mod Steps

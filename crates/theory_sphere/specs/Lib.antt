@@ -1,0 +1,10 @@
+-- The facts of an accepted mesh, and that they are what acceptance tests.
+pub mod Sphere
+pub mod Darts
+pub mod Rows
+pub mod Sides
+pub mod Rings
+pub mod Components
+pub mod FirstRefusal
+pub mod Accept
+pub mod Rotations

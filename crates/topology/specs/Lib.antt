@@ -1,4 +1,0 @@
--- The topology of an accepted mesh: turning round a vertex, a count of sides, and chords that never cross.
-pub mod Euler
-pub mod Crossing
-pub mod Chords

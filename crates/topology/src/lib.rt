@@ -1,1 +1,0 @@
-// No code here: specs/ holds the theory.
