@@ -15,7 +15,7 @@ pub extern "C" fn mesh_check_c(n: usize, triangles: &[u16], scratch: &mut [i64])
     ensures scratch { λ r. ⌜ now (scratch .exit) ≡ checkCall n (now (triangles .entry)) (now (scratch .entry)) .scratch ⌝ }
 {
     match mesh_check::check(n, triangles, scratch) {
-        MeshAnswer::Accepted(_) => 0,
+        MeshAnswer::Accepted => 0,
         MeshAnswer::Refused(number) => number as u64,
     }
 }

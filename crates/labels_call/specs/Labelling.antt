@@ -19,6 +19,7 @@ use Rattle.theory_sphere.specs.FirstRefusal.{refusal-clean}
 use Rattle.theory_peeling.specs.Labelled.{labels-exact, labels-below}
 use Rattle.scratch_tables.specs.Tables.{Tables, tablesOf, dartIn}
 use Rattle.labels_tables.specs.LabelledTables.{Peeled, labelIn, labelIn-is}
+use Rattle.mesh_check.specs.Answer.{rowOf}
 use Rattle.mesh_check.specs.Stages.{Lent, Examined, Accepting, accepting-mesh, accepting-sphere}
 use Rattle.mesh_check.specs.declared.MeshAnswer.{MeshAnswer}
 use Rattle.mesh_check.specs.declared.MeshAnswer.the-variants.{Accepted, Refused}
@@ -27,14 +28,14 @@ use Rattle.labels_model.specs.Result.{staged}
 
 -- what the answer says: the mesh is accepted, and scratch holds its labels and the trace of its peeling; or a row has found something
 abbrev pub Labelling : ℕ → List ℕ → List ℤ → MeshAnswer → Type 0
-Labelling n ts s (Accepted d) = AcceptedMesh n ts × Peeled n ts (labels n ts) s
+Labelling n ts s Accepted = AcceptedMesh n ts × Peeled n ts (labels n ts) s
 Labelling n ts s (Refused k) = firstRefusal (meshRows n ts) ≡ some k
 
 -- ---- room for the stage
 
 module _ {n : ℕ} {ts : List ℕ} {words : ℕ} (L : Lent n ts words) where
   -- every corner has a vertex, and what stands past the end reads as one
-  small : {t : Tables} {d : ℕ} → Accepting n ts t d → (d : ℕ) → org ts d < n
+  small : {t : Tables} → Accepting n ts t → (d : ℕ) → org ts d < n
   unfolding org
   small A d =
       elim (decLt d (length ts)) [
@@ -49,7 +50,7 @@ module _ {n : ℕ} {ts : List ℕ} {words : ℕ} (L : Lent n ts words) where
   unfolding next prev
   near g h = omega (arith, L .triangles, L .most, L .least)
 
-  pub has-room : {t : Tables} {d : ℕ} → Accepting n ts t d → Room ts words
+  pub has-room : {t : Tables} → Accepting n ts t → Room ts words
   has-room A =
       record {
         darts = λ g h. let b = near g h in record {
@@ -66,7 +67,7 @@ module _ {n : ℕ} {ts : List ℕ} {words : ℕ} (L : Lent n ts words) where
   is-wide = record { room = L .room; small = omega (arith, L .most) }
 
   -- the stage ends with the labels
-  pub labelling : {t : Tables} {d : ℕ} (A : Accepting n ts t d) (s : List ℤ) → tablesOf s ≡ peelTables ts n t → AcceptedMesh n ts
+  pub labelling : {t : Tables} (A : Accepting n ts t) (s : List ℤ) → tablesOf s ≡ peelTables ts n t → AcceptedMesh n ts
       × Peeled n ts (labels n ts) s
   labelling {t} A s e = (accepting-mesh L A, staged n ts (accepting-sphere L A) (L .triangles) (L .most) t (A .tables .opposites) s e)
 
@@ -75,17 +76,24 @@ module _ {n : ℕ} {ts : List ℕ} {words : ℕ} (L : Lent n ts words) where
 pub labelling-refused : (n : ℕ) (ts : List ℕ) (s : List ℤ) (r : MeshAnswer) (k : ℕ) → r ≡ Refused k → Examined n ts s r → Labelling n ts s r
 labelling-refused n ts s r k e S = let p : Examined n ts s (Refused k) = rw e at S in rw e p
 
-pub said-accepted : (n : ℕ) (ts : List ℕ) (s : List ℤ) (r : MeshAnswer) (d : ℕ) → r ≡ Accepted d → Examined n ts s r →
-    Accepting n ts (tablesOf s) d
-said-accepted n ts s r d e S = rw e at S
+-- what the stage asks, and what it leaves, where the mesh check has accepted
+module _ (n : ℕ) (ts : List ℕ) (words : ℕ) (L : Lent n ts words) (s : List ℤ) (a : MeshAnswer) (e : a ≡ Accepted) (S : Examined n ts s a) where
+  accepting : Accepting n ts (tablesOf s)
+  accepting = rw e at S
 
-pub labelled-refused : (n : ℕ) (ts : List ℕ) (s : List ℤ) (r : MeshAnswer) (k : ℕ) → r ≡ Refused k → Labelling n ts s r →
-    firstRefusal (meshRows n ts) ≡ some k
-labelled-refused n ts s r k e S = rw e at S
+  pub can-peel : (m : ℕ) → m ≡ words → Room ts m × HasVertices n m
+  can-peel m f = rw f (has-room L accepting, is-wide L)
 
-pub labelled-accepted : (n : ℕ) (ts : List ℕ) (s : List ℤ) (r : MeshAnswer) (d : ℕ) → r ≡ Accepted d → Labelling n ts s r → AcceptedMesh n ts
+  pub peeled : (s′ : List ℤ) → tablesOf s′ ≡ peelTables ts n (tablesOf s) → AcceptedMesh n ts × Peeled n ts (labels n ts) s′
+  peeled = labelling L accepting
+
+pub labelled-refused : (n : ℕ) (ts : List ℕ) (s : List ℤ) (a : MeshAnswer) (k : ℕ) → a ≡ Refused k → Labelling n ts s a →
+    firstRefusal (meshRows n ts) ≡ some (rowOf a)
+labelled-refused n ts s a k e S = rw e (rw e at S)
+
+pub labelled-accepted : (n : ℕ) (ts : List ℕ) (s : List ℤ) (a : MeshAnswer) → a ≡ Accepted → Labelling n ts s a → AcceptedMesh n ts
     × Peeled n ts (labels n ts) s
-labelled-accepted n ts s r d e S = rw e at S
+labelled-accepted n ts s a e S = rw e at S
 
 -- ---- the labels, read from scratch
 

@@ -1,8 +1,10 @@
 // The labels call: on an accepted mesh the peeling labels the corners of the inner triangles. The work is linear in n, but for the search for the
 // smallest vertex that can leave, which passes over whole groups and blocks of vertices. Of scratch it uses the ten words a vertex that the mesh
 // check uses.
+use lent_slices::labels_rows;
 use mesh_check::MeshAnswer;
 use mesh_check::examine;
+use mesh_check::refusal_of;
 use scratch_tables::clear;
 ghost use mathlib.Core.Path.{_≡_};
 ghost use Prim.Native.Nat.{ℕ, _+_, _<_};
@@ -10,9 +12,9 @@ ghost use lib.ListN.{length, getD};
 ghost use Rattle.definitions.specs.Refusals.{labelsCall};
 ghost use Rattle.scratch_tables.specs.Tables.{tablesOf};
 ghost use Rattle.labels_tables.specs.LabelledTables.{labelIn};
-ghost use Rattle.mesh_check.specs.Answer.{meshToAnswer};
 ghost use Rattle.mesh_check.specs.Stages.{Lent};
 ghost use Rattle.labels_call.specs.Answer.{labelsToAnswer};
+ghost use Rattle.labels_call.specs.CallOutcomes.{LabelsFit};
 ghost use Rattle.labels_call.specs.Labelling.{Labelling};
 
 // the labels are written; or refused, with the number of the row
@@ -21,8 +23,6 @@ pub enum LabelsAnswer {
     Refused(u32),
 }
 
-const MOST_VERTICES: usize = 4096;
-
 // Rows 3 to 8 and the labels stage, for every call that needs labels. Where the mesh is accepted scratch holds the labels and the trace of the peeling.
 // Where it is refused nothing is said of scratch: the call clears it.
 pub fn label_mesh(n: usize, triangles: &[u16], s: &mut [i64]) -> MeshAnswer
@@ -30,11 +30,11 @@ pub fn label_mesh(n: usize, triangles: &[u16], s: &mut [i64]) -> MeshAnswer
     ensures { λ r. ⌜ Labelling n (now (triangles .entry)) (now (s .exit)) r ⌝ }
 {
     let examined = examine(n, triangles, s);
-    let MeshAnswer::Accepted(darts) = examined else {
+    let MeshAnswer::Accepted = examined else {
         return examined;
     };
     labels_peel::peel(triangles, s, n);
-    MeshAnswer::Accepted(darts)
+    MeshAnswer::Accepted
 }
 
 // the labels from corner 3 on, which is the first of an inner triangle
@@ -49,13 +49,18 @@ fn write_labels(s: &[i64], labels: &mut [u8])
     }
 }
 
-fn refusal(answer: MeshAnswer) -> LabelsAnswer
-    ensures { λ r. ⌜ labelsToAnswer r ≡ meshToAnswer answer ⌝ }
+// Rows 3 to 8, and the labels. Nothing is said of scratch: the call clears it.
+fn run_labels(n: usize, triangles: &[u16], labels: &mut [u8], s: &mut [i64]) -> LabelsAnswer
+    requires { ⌜ LabelsFit n (now triangles) (now labels) (now s) ⌝ }
+    ensures answer { λ r. ⌜ labelsToAnswer r ≡ labelsCall n (now (triangles .entry)) (now (labels .entry)) (now (s .entry)) .answer ⌝ }
+    ensures labels { λ r. ⌜ now (labels .exit) ≡ labelsCall n (now (triangles .entry)) (now (labels .entry)) (now (s .entry)) .labels ⌝ }
 {
-    match answer {
-        MeshAnswer::Accepted(_) => LabelsAnswer::Written,
-        MeshAnswer::Refused(number) => LabelsAnswer::Refused(number),
-    }
+    let labelled = label_mesh(n, triangles, s);
+    let MeshAnswer::Accepted = labelled else {
+        return LabelsAnswer::Refused(refusal_of(labelled));
+    };
+    write_labels(s, labels);
+    LabelsAnswer::Written
 }
 
 // The public call. Scratch is as lent after 1 and 2, and holds zeros after every other answer.
@@ -64,27 +69,11 @@ pub fn labels(n: usize, triangles: &[u16], labels: &mut [u8], scratch: &mut [i64
     ensures labels { λ r. ⌜ now (labels .exit) ≡ labelsCall n (now (triangles .entry)) (now (labels .entry)) (now (scratch .entry)) .labels ⌝ }
     ensures scratch { λ r. ⌜ now (scratch .exit) ≡ labelsCall n (now (triangles .entry)) (now (labels .entry)) (now (scratch .entry)) .scratch ⌝ }
 {
-    if n < 3 {
-        return LabelsAnswer::Refused(1);
+    let number = labels_rows(n, triangles.len(), scratch.len(), labels.len());
+    if number != 0 {
+        return LabelsAnswer::Refused(number);
     }
-    if n > MOST_VERTICES {
-        return LabelsAnswer::Refused(1);
-    }
-    if triangles.len() != 3 * (2 * n - 4) {
-        return LabelsAnswer::Refused(2);
-    }
-    if scratch.len() != 24 * n {
-        return LabelsAnswer::Refused(2);
-    }
-    if labels.len() != 3 * (2 * n - 5) {
-        return LabelsAnswer::Refused(2);
-    }
-    let examined = label_mesh(n, triangles, scratch);
-    let MeshAnswer::Accepted(_) = examined else {
-        clear(scratch);
-        return refusal(examined);
-    };
-    write_labels(scratch, labels);
+    let answer = run_labels(n, triangles, labels, scratch);
     clear(scratch);
-    LabelsAnswer::Written
+    answer
 }

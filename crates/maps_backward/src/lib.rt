@@ -138,7 +138,7 @@ pub fn weights_past_limit(triangles: &[u16], scratch: &mut [i64], coordinates: &
     while i + 1 < triangles.len() / 3 {
         let w = weight_of(triangles, scratch, coordinates, i + 1);
         sum += int64::magnitude(w);
-        if sum > 1_073_741_823 {
+        if sum > maps_limits::LIMIT {
             return true;
         }
         int64::put(scratch, first + i, w);

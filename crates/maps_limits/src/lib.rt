@@ -7,6 +7,9 @@ ghost use Rattle.definitions.specs.Backward.{coordinate};
 ghost use Rattle.definitions.specs.Refusals.{hasCoordinates, row9, row10, row11, row12};
 ghost use Rattle.maps_limits.specs.Limits.{balanced};
 
+// L, the limit on the sum of the weights' absolute values and on each coordinate
+pub const LIMIT: usize = 1_073_741_823;
+
 // 9: the weights' absolute values sum past the limit
 pub fn past_limit(weights: &[i64]) -> bool
     ensures { λ r. ⌜ r ≡ row9 (now (weights .entry)) ⌝ }
@@ -15,7 +18,7 @@ pub fn past_limit(weights: &[i64]) -> bool
     let mut i = 0;
     while i < weights.len() {
         sum += int64::size_at(weights, i);
-        if sum > 1_073_741_823 {
+        if sum > LIMIT {
             return true;
         }
         i += 1;
@@ -30,7 +33,7 @@ pub fn out_of_range(coordinates: &[i64]) -> bool
     let mut i = 0;
     while i < coordinates.len() {
         let size = int64::size_at(coordinates, i);
-        if size > 1_073_741_823 {
+        if size > LIMIT {
             return true;
         }
         i += 1;

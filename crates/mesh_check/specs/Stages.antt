@@ -2,20 +2,21 @@
 use Prim.Native.Nat.{ℕ, _*_, _/_, _%_, _≤_, _<_, _^_}
 use mathlib.Core.Path.{_≡_, sym, ap, _∙_}
 use mathlib.Core.Bool.{Bool, true, false}
-use mathlib.Core.List.{List}
+use mathlib.Core.List.{List, _∷_}
 use mathlib.Core.Option.{none, some}
 use native.Mathlib.Omega.{arith}
 use native.Mathlib.Decide.{decLt}
 use lib.ListN.{length, List·getD-eq-default}
 use lib.IntN.{ℤ}
-use Rattle.definitions.specs.Mesh.{trianglesLength, org, opp, row3, row4, row5, row6, row7, row8}
+use Rattle.definitions.specs.Mesh.{trianglesLength, scratchLength, org, opp, row3, row4, row5, row6, row7, row8}
 use Rattle.definitions.specs.Answers.{firstRefusal}
-use Rattle.definitions.specs.Refusals.{mostVertices, meshRows, Accepted as AcceptedMesh}
+use Rattle.definitions.specs.Refusals.{Slice, slice, mostVertices, meshRows, Accepted as AcceptedMesh}
 use Rattle.theory_sphere.specs.Rows.{row3-means}
 use Rattle.theory_sphere.specs.Sides.{Sides, sides}
 use Rattle.theory_sphere.specs.Sphere.{Sphere}
-use Rattle.theory_sphere.specs.Accept.{range-row1, accepted-sphere}
-use Rattle.theory_sphere.specs.FirstRefusal.{clean-refusal, mesh-5, mesh-6, mesh-7, mesh-8}
+use Rattle.theory_sphere.specs.Accept.{row1-range, range-row1, accepted-sphere}
+use Rattle.lent_slices.specs.Calls.{Fits}
+use Rattle.theory_sphere.specs.FirstRefusal.{row2-cons, clean-refusal, mesh-3, mesh-4, mesh-5, mesh-6, mesh-7, mesh-8}
 use Rattle.scratch_tables.specs.Tables.{Tables, tablesOf, blank, withOp, withMark}
 use Rattle.mesh_model.specs.IncidenceLists.{fill, fill-buckets, fill-heads, fill-mark, Bucketed, Headed, blank-counts, blank-heads, Rooted, bucketed-rooted}
 use Rattle.mesh_model.specs.DuplicateSides.{Before}
@@ -37,6 +38,13 @@ pub record Lent (n : ℕ) (ts : List ℕ) (words : ℕ) : Type 0 where
   pub triangles : length ts ≡ trianglesLength n
   pub room : 10 * n ≤ words
 
+-- which slices a call has besides makes no difference
+pub has-lent : (n : ℕ) (ts : List ℕ) (scratch : List ℤ) (slices : List Slice) → Fits n ts scratch slices → Lent n ts (length scratch)
+has-lent n ts scratch slices F =
+    let b = row1-range mostVertices n (F .size) in
+    let l = row2-cons (length ts) (trianglesLength n) (slice (length scratch) (scratchLength n) ∷ slices) .0 (F .lengths) in
+    record { least = b .0; most = b .1; triangles = l .0; room = omega (arith, row2-cons (length scratch) (scratchLength n) slices .0 (l .1) .0) }
+
 -- the opposites, the number of darts of each vertex, and a dart of each
 pub record Opened (ts : List ℕ) (t : Tables) : Type 0 where
   pub opposites : (d : ℕ) → d < length ts → t .op d ≡ opp ts d
@@ -50,19 +58,18 @@ pub record Paired (n : ℕ) (ts : List ℕ) (t : Tables) : Type 0 where
   pub none6 : row6 ts ≡ false
   pub tables : Opened ts t
 
--- no row of the mesh has found anything; d is the number of darts
-pub record Accepting (n : ℕ) (ts : List ℕ) (t : Tables) (d : ℕ) : Type 0 where
+-- no row of the mesh has found anything
+pub record Accepting (n : ℕ) (ts : List ℕ) (t : Tables) : Type 0 where
   pub clean : firstRefusal (meshRows n ts) ≡ none
-  pub darts : d ≡ length ts
   pub tables : Opened ts t
 
 -- what the answer says: of the rows 3 to 6, and of all rows
 abbrev pub SidesPaired : ℕ → List ℕ → List ℤ → MeshAnswer → Type 0
-SidesPaired n ts s (Accepted d) = Paired n ts (tablesOf s) × (d ≡ length ts)
+SidesPaired n ts s Accepted = Paired n ts (tablesOf s)
 SidesPaired n ts s (Refused k) = firstRefusal (meshRows n ts) ≡ some k
 
 abbrev pub Examined : ℕ → List ℕ → List ℤ → MeshAnswer → Type 0
-Examined n ts s (Accepted d) = Accepting n ts (tablesOf s) d
+Examined n ts s Accepted = Accepting n ts (tablesOf s)
 Examined n ts s (Refused k) = firstRefusal (meshRows n ts) ≡ some k
 
 -- ---- room
@@ -84,11 +91,11 @@ small n ts h e d =
 pub has-room : (n : ℕ) (ts : List ℕ) (words : ℕ) → Lent n ts words → row3 ts n ≡ false → Room ts words
 has-room n ts words L e = let w = whole n ts L in room n (length ts / 3) words ts (small n ts (L .least) e) (w .0) (w .1) (L .room)
 
-pub can-fill : (n : ℕ) (ts : List ℕ) (s s₁ : List ℤ) → Lent n ts (length s) → row3 ts n ≡ false → length s₁ ≡ length s →
+pub can-fill : (n : ℕ) (ts : List ℕ) (s s₁ : List ℤ) (r : Bool) → Lent n ts (length s) → r ≡ row3 ts n → r ≡ false → length s₁ ≡ length s →
     tablesOf s₁ ≡ withOp (tablesOf s .op) blank → Filling ts s₁
-can-fill n ts s s₁ L e l b =
+can-fill n ts s s₁ r L e f l b =
     record {
-      space = rw l (has-room n ts (length s) L e);
+      space = rw l (has-room n ts (length s) L (sym e ∙ f));
       count = rw b (blank-counts ts (tablesOf s .op));
       heads = rw b (blank-heads ts (tablesOf s .op));
       few = omega (arith, L .triangles, L .most);
@@ -98,10 +105,17 @@ can-fill n ts s s₁ L e l b =
 pub can-test : (n : ℕ) (ts : List ℕ) (words : ℕ) → Lent n ts words → (length ts % 3 ≡ 0) × (length ts < 2 ^ 62)
 can-test n ts words L = omega (arith, whole n ts L .0, L .triangles, L .most)
 
-pub has-marks : (n : ℕ) (ts : List ℕ) (words : ℕ) → Lent n ts words → Marks (length ts / 3) words × (0 < length ts / 3)
-has-marks n ts words L =
+pub has-marks : (n : ℕ) (ts : List ℕ) (words : ℕ) → Lent n ts words → {words′ : ℕ} → words′ ≡ words → Marks (length ts / 3) words′ × (0 < length ts / 3)
+has-marks n ts words L e =
     let w = whole n ts L in
     (record { at = λ t h. omega (arith, L .room, w .1); few = omega (arith, L .most, w .1) }, w .2)
+
+-- rows 3 and 4, as the code finds them
+pub refuse3 : (n : ℕ) (ts : List ℕ) (r : Bool) → r ≡ row3 ts n → r ≡ true → firstRefusal (meshRows n ts) ≡ some 3
+refuse3 n ts r e f = mesh-3 n ts (sym e ∙ f)
+
+pub refuse4 : (n : ℕ) (ts : List ℕ) (q r : Bool) → q ≡ row3 ts n → q ≡ false → r ≡ row4 ts → r ≡ true → firstRefusal (meshRows n ts) ≡ some 4
+refuse4 n ts q r d g e f = mesh-4 n ts (sym d ∙ g) (sym e ∙ f)
 
 -- ---- rows 5 and 6
 
@@ -111,9 +125,12 @@ record Listed (ts : List ℕ) (t : Tables) : Type 0 where
   heads : Headed ts t
   marks : Before 0 (t .mark)
 
-module _ (n : ℕ) (ts : List ℕ) (words : ℕ) (L : Lent n ts words) (none3 : row3 ts n ≡ false) (s s₁ s₂ : List ℤ)
+module _ (n : ℕ) (ts : List ℕ) (words : ℕ) (L : Lent n ts words) (r3 : Bool) (e3 : r3 ≡ row3 ts n) (f3 : r3 ≡ false) (s s₁ s₂ : List ℤ)
     (b : tablesOf s₁ ≡ withOp (tablesOf s .op) blank)
     (f : tablesOf s₂ ≡ fill ts (length ts) (tablesOf s₁)) where
+  none3 : row3 ts n ≡ false
+  none3 = sym e3 ∙ f3
+
   listed : Listed ts (tablesOf s₂)
   unfolding withOp blank
   listed =
@@ -138,7 +155,10 @@ module _ (n : ℕ) (ts : List ℕ) (words : ℕ) (L : Lent n ts words) (none3 : 
       (listed .buckets) (tablesOf s₂ .mark) (listed .marks)
 
   -- what the number says of rows 5 and 6; where they find nothing the opposites are there
-  module _ (none4 : row4 ts ≡ false) (s₃ : List ℤ) (r : ℕ) (M : AllMatched ts n s₂ s₃ r) where
+  module _ (r4 : Bool) (e4 : r4 ≡ row4 ts) (f4 : r4 ≡ false) (s₃ : List ℤ) (r : ℕ) (M : AllMatched ts n s₂ s₃ r) where
+    none4 : row4 ts ≡ false
+    none4 = sym e4 ∙ f4
+
     pub refuse5 : r ≡ 5 → firstRefusal (meshRows n ts) ≡ some 5
     refuse5 e = go told
       where
@@ -177,41 +197,43 @@ module _ (n : ℕ) (ts : List ℕ) (words : ℕ) (L : Lent n ts words) (none3 : 
 
 -- ---- rows 7 and 8
 
-module _ (n : ℕ) (ts : List ℕ) (words : ℕ) (L : Lent n ts words) (s : List ℤ) (P : Paired n ts (tablesOf s)) where
+module _ (n : ℕ) (ts : List ℕ) (words : ℕ) (L : Lent n ts words) (s : List ℤ) (p : MeshAnswer) (e : p ≡ Accepted)
+    (S : SidesPaired n ts s p) where
+  P : Paired n ts (tablesOf s)
+  P = rw e at S
+
   theSides : Sides n (length ts / 3) (org ts) (opp ts)
   theSides = sides ts (length ts / 3) (whole n ts L .0) n (P .none3) (P .none4) (P .none5) (P .none6)
 
   pub found7 : (r : Bool) → r ≡ someRingBroken (tablesOf s) n 0 → r ≡ row7 ts n
-  found7 r e =
-      e ∙ someRingBroken-is ts (length ts / 3) (whole n ts L .0) n theSides (tablesOf s) (P .tables .rooted) (P .tables .opposites)
+  found7 r f =
+      f ∙ someRingBroken-is ts (length ts / 3) (whole n ts L .0) n theSides (tablesOf s) (P .tables .rooted) (P .tables .opposites)
 
   pub refuse7 : (r : Bool) → r ≡ someRingBroken (tablesOf s) n 0 → r ≡ true → firstRefusal (meshRows n ts) ≡ some 7
-  refuse7 r e t = mesh-7 n ts (P .none3) (P .none4) (P .none5) (P .none6) (sym (found7 r e) ∙ t)
+  refuse7 r f t = mesh-7 n ts (P .none3) (P .none4) (P .none5) (P .none6) (sym (found7 r f) ∙ t)
 
-  module _ (s′ : List ℤ) (r : Bool) (S : Split (length ts / 3) s s′ r) where
+  module _ (s′ : List ℤ) (r : Bool) (D : Split (length ts / 3) s s′ r) where
     found8 : r ≡ row8 ts
     found8 =
         let w = whole n ts L in
-        S .found
-        ∙ explore-is ts n theSides (tablesOf s .op) (λ e h. P .tables .opposites e (omega (arith, w .0))) (S .mark) (w .2) (S .zeros)
+        D .found
+        ∙ explore-is ts n theSides (tablesOf s .op) (λ d h. P .tables .opposites d (omega (arith, w .0))) (D .mark) (w .2) (D .zeros)
 
     pub refuse8 : (q : Bool) → q ≡ someRingBroken (tablesOf s) n 0 → q ≡ false → r ≡ true → firstRefusal (meshRows n ts) ≡ some 8
-    refuse8 q e f t = mesh-8 n ts (P .none3) (P .none4) (P .none5) (P .none6) (sym (found7 q e) ∙ f) (sym found8 ∙ t)
+    refuse8 q g f t = mesh-8 n ts (P .none3) (P .none4) (P .none5) (P .none6) (sym (found7 q g) ∙ f) (sym found8 ∙ t)
 
-    pub accept : (q : Bool) → q ≡ someRingBroken (tablesOf s) n 0 → q ≡ false → r ≡ false → (d : ℕ) → d ≡ length ts →
-        Accepting n ts (tablesOf s′) d
+    pub accept : (q : Bool) → q ≡ someRingBroken (tablesOf s) n 0 → q ≡ false → r ≡ false → Accepting n ts (tablesOf s′)
     unfolding withMark
-    accept q e f t d l = record {
+    accept q g f t = record {
       clean = clean-refusal n ts record {
         clean3 = P .none3;
         clean4 = P .none4;
         clean5 = P .none5;
         clean6 = P .none6;
-        clean7 = sym (found7 q e) ∙ f;
+        clean7 = sym (found7 q g) ∙ f;
         clean8 = sym found8 ∙ t;
       };
-      darts = l;
-      tables = rw (S .same) record {
+      tables = rw (D .same) record {
         opposites = P .tables .opposites;
         rooted = record { number = P .tables .rooted .number; dart = P .tables .rooted .dart };
       };
@@ -222,15 +244,11 @@ module _ (n : ℕ) (ts : List ℕ) (words : ℕ) (L : Lent n ts words) (s : List
 pub said-refused : (n : ℕ) (ts : List ℕ) (s : List ℤ) (r : MeshAnswer) (k : ℕ) → r ≡ Refused k → SidesPaired n ts s r → Examined n ts s r
 said-refused n ts s r k e S = let p : SidesPaired n ts s (Refused k) = rw e at S in rw e p
 
-pub said-paired : (n : ℕ) (ts : List ℕ) (s : List ℤ) (r : MeshAnswer) (d : ℕ) → r ≡ Accepted d → SidesPaired n ts s r →
-    Paired n ts (tablesOf s) × (d ≡ length ts)
-said-paired n ts s r d e S = rw e at S
-
 -- ---- what the calls that go on from here have: an accepted mesh, and so a sphere
 
-pub accepting-mesh : {n : ℕ} {ts : List ℕ} {words : ℕ} {t : Tables} {d : ℕ} → Lent n ts words → Accepting n ts t d → AcceptedMesh n ts
+pub accepting-mesh : {n : ℕ} {ts : List ℕ} {words : ℕ} {t : Tables} → Lent n ts words → Accepting n ts t → AcceptedMesh n ts
 accepting-mesh {n} L A = (range-row1 mostVertices n (L .least) (L .most), L .triangles, A .clean)
 
-pub accepting-sphere : {n : ℕ} {ts : List ℕ} {words : ℕ} {t : Tables} {d : ℕ} → Lent n ts words → Accepting n ts t d
+pub accepting-sphere : {n : ℕ} {ts : List ℕ} {words : ℕ} {t : Tables} → Lent n ts words → Accepting n ts t
     → Sphere n (length ts / 3) (org ts) (opp ts)
 accepting-sphere {n} {ts} L A = accepted-sphere n ts (accepting-mesh L A)

@@ -1,8 +1,6 @@
 -- The answer of the repair call as document 01 states it. Definitions only.
 use Prim.Native.Nat.{ℕ}
 use Rattle.definitions.specs.Answers.{Answer, done, refused, numbered, stoppedAfter}
-use Rattle.mesh_check.specs.declared.MeshAnswer.{MeshAnswer}
-use Rattle.mesh_check.specs.declared.MeshAnswer.the-variants.{Accepted, Refused as MeshRefused}
 use Rattle.repair_call.specs.declared.RepairAnswer.{RepairAnswer}
 use Rattle.repair_call.specs.declared.RepairAnswer.the-variants.{Repaired, Refused, Stopped}
 
@@ -11,8 +9,3 @@ abbrev pub repairToAnswer : RepairAnswer → Answer ℕ
 repairToAnswer (Repaired count) = done count
 repairToAnswer (Refused k) = refused (numbered k)
 repairToAnswer (Stopped count) = refused (stoppedAfter count)
-
--- what is made of a mesh check that did not accept (it is asked for no other)
-abbrev pub refusedMesh : MeshAnswer → Answer ℕ
-refusedMesh (Accepted darts) = done 0
-refusedMesh (MeshRefused k) = refused (numbered k)

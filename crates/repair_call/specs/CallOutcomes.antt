@@ -1,40 +1,29 @@
 -- What the repair call answers and leaves, for each way that it can end: the equations of `repairCall`. Assumes nothing.
-use Prim.Native.Nat.{ℕ, _≤_, _<_}
-use mathlib.Core.Path.{_≡_, refl, sym, ap, _∙_}
+use Prim.Native.Nat.{ℕ, _≤_}
+use mathlib.Core.Path.{_≡_, sym, ap, _∙_}
 use mathlib.Core.Bool.{true, false}
 use mathlib.Core.List.{List, [], _∷_, map}
 use mathlib.Core.Option.{Option, none, some}
 use native.Mathlib.Omega.{arith}
-use lib.Dec.{leb, ltb}
+use lib.Dec.{leb}
 use lib.ListN.{length}
 use lib.IntN.{ℤ, pos}
-use borrow.Author.Tests.{lt-ltb, lt-leb}
-use Rattle.definitions.specs.Lists.{any}
-use Rattle.definitions.specs.Mesh.{trianglesLength, weightsLength, coordinatesLength, scratchLength}
+use borrow.Author.Tests.{lt-leb}
+use Rattle.definitions.specs.Mesh.{weightsLength, coordinatesLength}
 use Rattle.definitions.specs.Answers.{Answer, refused, numbered, Row, row, firstRefusal}
 use Rattle.definitions.specs.Labels.{labels}
 use Rattle.definitions.specs.Forward.{forward}
 use Rattle.definitions.specs.Repair.{repair}
-use Rattle.definitions.specs.Refusals.{row1, row2, row9, Slice, slice, mostVertices, meshRows, scratchAfter, callRefusal, repairAnswer, repairCall}
+use Rattle.definitions.specs.Refusals.{row9, Slice, slice, meshRows, scratchAfter, callRefusal, repairAnswer, repairCall}
 use Rattle.definitions.specs.Refusals.{Accepted as AcceptedMesh}
-use Rattle.laws.specs.Lists.{unfalse, or-left, or-right}
-use Rattle.theory_sphere.specs.FirstRefusal.{refusal-found, refusal-passed, row2-cons, lent, callRefusal-1, callRefusal-2, callRefusal-mesh, callRefusal-own}
-use Rattle.theory_sphere.specs.Accept.{range-row1}
+use Rattle.theory_sphere.specs.FirstRefusal.{refusal-found, refusal-passed, callRefusal-mesh, callRefusal-own}
 use Rattle.labels_tables.specs.LabelledTables.{Peeled}
-use Rattle.mesh_check.specs.Stages.{Lent}
-use Rattle.mesh_check.specs.CallOutcomes.{mesh-number}
+use Rattle.lent_slices.specs.Lengths.{firstRows}
+use Rattle.lent_slices.specs.Calls.{Fits, early-found, late, mesh-late, cleared}
+use Rattle.lent_slices.specs.MapLengths.{Lengths, forwardSlices, forward-fits}
 use Rattle.repair_loop.specs.declared.Ended.{Ended}
 use Rattle.repair_loop.specs.Answer.{endToAnswer, Ends}
 use Rattle.repair_loop.specs.Start.{StartPre}
-
--- what row 3 and the later ones are asked of: slices of their lengths
-pub record Fitting (n : ℕ) (ts : List ℕ) (ws bs scratch : List ℤ) : Type 0 where
-  pub least : 3 ≤ n
-  pub most : n ≤ 4096
-  pub triangles : length ts ≡ trianglesLength n
-  pub room : length scratch ≡ scratchLength n
-  pub weights : length ws ≡ weightsLength n
-  pub coordinates : length bs ≡ coordinatesLength n
 
 -- the answer, the weights and the coordinates are the definition's, which leaves zeros in scratch
 pub record Given (n : ℕ) (ts : List ℕ) (ws bs scratch : List ℤ) (a : Answer ℕ) (ws′ bs′ : List ℤ) : Type 0 where
@@ -78,65 +67,18 @@ module _ (n : ℕ) (ts : List ℕ) (ws bs scratch : List ℤ) where
     (ap weightsOf (sym e), (ap coordinatesOf (sym e), ap (λ (f : Option ℕ). scratchAfter f scratch) (sym e))),
   )
 
-  -- 1: too few vertices, or too many
-  refused-1 : row1 mostVertices n ≡ true → Gives (refused (numbered 1)) ws bs scratch
-  unfolding scratchAfter
-  refused-1 e = given (some 1) (callRefusal-1 n ts scratch slices own e)
-
-  pub gives-few : n < 3 → Gives (refused (numbered 1)) ws bs scratch
-  unfolding row1
-  gives-few h = refused-1 (or-left (ltb n 3) (ltb mostVertices n) (lt-ltb n 3 h))
-
-  pub gives-many : 4096 < n → Gives (refused (numbered 1)) ws bs scratch
-  unfolding row1
-  gives-many h = refused-1 (or-right (ltb n 3) (ltb mostVertices n) (lt-ltb mostVertices n h))
-
-  -- 2: a slice of another length
-  module _ (h : 3 ≤ n) (l : n ≤ 4096) where
-    refused-2 : (row2 (lent n ts scratch slices) ≡ false → ⊥) → Gives (refused (numbered 2)) ws bs scratch
-    unfolding scratchAfter
-    refused-2 f = given (some 2) (callRefusal-2 n ts scratch slices own (range-row1 mostVertices n h l) (unfalse (row2 (lent n ts scratch slices)) f))
-
-    -- where no slice is of another length
-    lengths : row2 (lent n ts scratch slices) ≡ false →
-        (length ts ≡ trianglesLength n) × (length scratch ≡ scratchLength n) × (length ws ≡ weightsLength n) × (length bs ≡ coordinatesLength n)
-    lengths e =
-        let a = row2-cons (length ts) (trianglesLength n) (slice (length scratch) (scratchLength n) ∷ slices) .0 e in
-        let b = row2-cons (length scratch) (scratchLength n) slices .0 (a .1) in
-        let c = row2-cons (length ws) (weightsLength n) (slice (length bs) (coordinatesLength n) ∷ []) .0 (b .1) in
-        (a .0, b .0, c .0, row2-cons (length bs) (coordinatesLength n) [] .0 (c .1) .0)
-
-    pub gives-triangles : (length ts ≡ trianglesLength n → ⊥) → Gives (refused (numbered 2)) ws bs scratch
-    gives-triangles f = refused-2 (λ e. f (lengths e .0))
-
-    pub gives-scratch : (length scratch ≡ scratchLength n → ⊥) → Gives (refused (numbered 2)) ws bs scratch
-    gives-scratch f = refused-2 (λ e. f (lengths e .1))
-
-    pub gives-weights : (length ws ≡ weightsLength n → ⊥) → Gives (refused (numbered 2)) ws bs scratch
-    gives-weights f = refused-2 (λ e. f (lengths e .2))
-
-    pub gives-coordinates : (length bs ≡ coordinatesLength n → ⊥) → Gives (refused (numbered 2)) ws bs scratch
-    gives-coordinates f = refused-2 (λ e. f (lengths e .3))
+  -- 1 and 2
+  pub gives-early : (r : ℕ) → r ≡ firstRows n (forwardSlices n (length ts) (length scratch) (length ws) (length bs)) → (r ≡ 0 → ⊥)
+      → Gives (refused (numbered r)) ws bs scratch
+  gives-early r e f =
+      let g = early-found n ts scratch slices r e own f in
+      let h = given (some r) (g .0) in
+      (h .0, (h .1 .0, (h .1 .1 .0, sym (g .1) ∙ h .1 .1 .1)))
 
   -- 3 to 9, or nothing
-  module _ (F : Fitting n ts ws bs scratch) where
-    in-range : row1 mostVertices n ≡ false
-    in-range = range-row1 mostVertices n (F .least) (F .most)
-
-    fitting : row2 (lent n ts scratch slices) ≡ false
-    unfolding row2 any
-    fitting =
-        row2-cons (length ts) (trianglesLength n) (slice (length scratch) (scratchLength n) ∷ slices) .1 (
-          F .triangles,
-          row2-cons (length scratch) (scratchLength n) slices .1 (
-            F .room,
-            row2-cons (length ws) (weightsLength n) (slice (length bs) (coordinatesLength n) ∷ []) .1
-                (F .weights, row2-cons (length bs) (coordinatesLength n) [] .1 (F .coordinates, refl)),
-          ),
-        )
-
-    pub has-lent : Lent n ts (length scratch)
-    has-lent = record { least = F .least; most = F .most; triangles = F .triangles; room = omega (arith, F .room) }
+  module _ (L : Lengths n (length ts) (length scratch) (length ws) (length bs)) where
+    fits : Fits n ts scratch slices
+    fits = forward-fits n ts scratch (length ws) (length bs) L
 
     -- a row with a number from 3 on
     given-row : (k : ℕ) → 3 ≤ k → callRefusal n ts scratch slices own ≡ some k → Given n ts ws bs scratch (refused (numbered k)) ws bs
@@ -146,13 +88,14 @@ module _ (n : ℕ) (ts : List ℕ) (ws bs scratch : List ℤ) where
         let z : leb k 2 ≡ false = lt-leb k 2 (omega arith) in
         record { answer = g .0; weights = g .1 .0; coordinates = g .1 .1 .0; zeros = rw z at (g .1 .1 .1) }
 
-    pub given-refusal : (k : ℕ) → firstRefusal (meshRows n ts) ≡ some k → Given n ts ws bs scratch (refused (numbered k)) ws bs
-    given-refusal k S = given-row k (mesh-number n ts k S) (callRefusal-mesh n ts scratch slices own k in-range fitting S)
+    pub given-refusal : (k j : ℕ) → firstRefusal (meshRows n ts) ≡ some k → j ≡ k → Given n ts ws bs scratch (refused (numbered j)) ws bs
+    given-refusal k j S e =
+        rw e (given-row k (late (meshRows n ts) (mesh-late n ts) k S) (callRefusal-mesh n ts scratch slices own k (fits .size) (fits .lengths) S))
 
     -- on an accepted mesh
     module _ (A : AcceptedMesh n ts) where
       on-mesh : callRefusal n ts scratch slices own ≡ firstRefusal own
-      on-mesh = callRefusal-own n ts scratch slices own in-range fitting (A .2)
+      on-mesh = callRefusal-own n ts scratch slices own (fits .size) (fits .lengths) (A .2)
 
       pub given-9 : row9 ws ≡ true → Given n ts ws bs scratch (refused (numbered 9)) ws bs
       given-9 e = given-row 9 (omega arith) (on-mesh ∙ refusal-found 9 (λ _. row9 ws) [] e)
@@ -165,14 +108,19 @@ module _ (n : ℕ) (ts : List ℕ) (ws bs scratch : List ℤ) where
           record { answer = E .answer ∙ g .0; weights = E .weights ∙ g .1 .0; coordinates = E .coordinates ∙ g .1 .1 .0; zeros = g .1 .1 .1 }
 
   -- what the loop is called for
-  pub startable : (s : List ℤ) → Fitting n ts ws bs scratch → length s ≡ length scratch → row9 ws ≡ false → Peeled n ts (labels n ts) s →
-      StartPre n ts ws bs s
-  startable s F e light P =
+  pub startable : (s : List ℤ) → Lengths n (length ts) (length scratch) (length ws) (length bs) → length s ≡ length scratch → row9 ws ≡ false →
+      Peeled n ts (labels n ts) s → StartPre n ts ws bs s
+  startable s L e light P =
       record {
         labels = labels n ts;
         peeled = P;
-        weights = F .weights;
+        weights = L .weights;
         light = light;
-        coordinates = F .coordinates;
-        room = omega (arith, F .room);
+        coordinates = L .coordinates;
+        room = omega (arith, L .scratch);
       }
+
+  -- the whole call
+  pub gives-run : (a : Answer ℕ) (ws′ bs′ : List ℤ) → Given n ts ws bs scratch a ws′ bs′ → (s z : List ℤ) → length s ≡ length scratch →
+      z ≡ map (λ _. pos 0) s → Gives a ws′ bs′ z
+  gives-run a ws′ bs′ G s z e f = (G .answer, (G .weights, (G .coordinates, f ∙ cleared scratch s e ∙ G .zeros)))

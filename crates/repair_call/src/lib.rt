@@ -1,32 +1,25 @@
 // The repair call: rows 1 to 8, then 9; then, while some inner triangle is flat or turned, the lowest-numbered one is raised. A raise touches the vertices that
 // it moves and the triangles on the raised one's three walks, which are at most linear in n.
 use labels_call::label_mesh;
+use lent_slices::map_rows;
 use mesh_check::MeshAnswer;
+use mesh_check::refusal_of;
 use repair_loop::Ended;
 use repair_loop::repair_labelled;
 use scratch_tables::clear;
 ghost use mathlib.Core.Path.{_≡_};
+ghost use lib.ListN.{length};
 ghost use Rattle.definitions.specs.Refusals.{repairCall};
+ghost use Rattle.lent_slices.specs.MapLengths.{Lengths};
 ghost use Rattle.repair_loop.specs.Answer.{endToAnswer};
-ghost use Rattle.repair_call.specs.Answer.{repairToAnswer, refusedMesh};
-ghost use Rattle.repair_call.specs.CallOutcomes.{Fitting, Given};
+ghost use Rattle.repair_call.specs.Answer.{repairToAnswer};
+ghost use Rattle.repair_call.specs.CallOutcomes.{Given};
 
 // repaired, with the count of raises; refused, with the number of the row; or 13, with the count so far
 pub enum RepairAnswer {
     Repaired(usize),
     Refused(u32),
     Stopped(usize),
-}
-
-const MOST_VERTICES: usize = 4096;
-
-fn refusal(answer: MeshAnswer) -> RepairAnswer
-    ensures { λ r. ⌜ repairToAnswer r ≡ refusedMesh answer ⌝ }
-{
-    match answer {
-        MeshAnswer::Accepted(_) => RepairAnswer::Repaired(0),
-        MeshAnswer::Refused(number) => RepairAnswer::Refused(number),
-    }
 }
 
 fn ended(end: Ended) -> RepairAnswer
@@ -39,19 +32,19 @@ fn ended(end: Ended) -> RepairAnswer
 }
 
 // from row 3 on; nothing is said of scratch, which the call clears
-fn repair_lent(
+fn run_repair(
     n: usize,
     triangles: &[u16],
     weights: &mut [i64],
     coordinates: &mut [i64],
     s: &mut [i64],
 ) -> RepairAnswer
-    requires { ⌜ Fitting n (now triangles) (now weights) (now coordinates) (now s) ⌝ }
+    requires { ⌜ Lengths n (length (now triangles)) (length (now s)) (length (now weights)) (length (now coordinates)) ⌝ }
     ensures { λ r. ⌜ Given n (now (triangles .entry)) (now (weights .entry)) (now (coordinates .entry)) (now (s .entry)) (repairToAnswer r) (now (weights .exit)) (now (coordinates .exit)) ⌝ }
 {
-    let examined = label_mesh(n, triangles, s);
-    let MeshAnswer::Accepted(_) = examined else {
-        return refusal(examined);
+    let labelled = label_mesh(n, triangles, s);
+    let MeshAnswer::Accepted = labelled else {
+        return RepairAnswer::Refused(refusal_of(labelled));
     };
     if maps_limits::past_limit(weights) {
         return RepairAnswer::Refused(9);
@@ -74,25 +67,17 @@ pub fn repair(
     ensures coordinates { λ r. ⌜ now (coordinates .exit) ≡ repairCall n (now (triangles .entry)) (now (weights .entry)) (now (coordinates .entry)) (now (scratch .entry)) .coordinates ⌝ }
     ensures scratch { λ r. ⌜ now (scratch .exit) ≡ repairCall n (now (triangles .entry)) (now (weights .entry)) (now (coordinates .entry)) (now (scratch .entry)) .scratch ⌝ }
 {
-    if n < 3 {
-        return RepairAnswer::Refused(1);
+    let number = map_rows(
+        n,
+        triangles.len(),
+        scratch.len(),
+        weights.len(),
+        coordinates.len(),
+    );
+    if number != 0 {
+        return RepairAnswer::Refused(number);
     }
-    if n > MOST_VERTICES {
-        return RepairAnswer::Refused(1);
-    }
-    if triangles.len() != 3 * (2 * n - 4) {
-        return RepairAnswer::Refused(2);
-    }
-    if scratch.len() != 24 * n {
-        return RepairAnswer::Refused(2);
-    }
-    if weights.len() != 2 * n - 5 {
-        return RepairAnswer::Refused(2);
-    }
-    if coordinates.len() != 3 * n {
-        return RepairAnswer::Refused(2);
-    }
-    let answer = repair_lent(n, triangles, weights, coordinates, scratch);
+    let answer = run_repair(n, triangles, weights, coordinates, scratch);
     clear(scratch);
     answer
 }

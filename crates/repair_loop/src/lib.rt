@@ -50,7 +50,7 @@ fn try_raise(
 {
     let x = repair_search::raise_at(s, coordinates, t);
     let new = sum_after(weights, t, sum, x);
-    if new > 1_073_741_823 {
+    if new > maps_limits::LIMIT {
         return new;
     }
     repair_update::add_at(weights, t - 1, x);
@@ -87,7 +87,7 @@ fn raise_all(
     let mut t = repair_search::first_bad(s, coordinates, 1, end);
     while t < end {
         let tried = try_raise(n, triangles, weights, coordinates, s, t, total);
-        if tried > 1_073_741_823 {
+        if tried > maps_limits::LIMIT {
             return Ended::Stopped(count);
         }
         total = tried;

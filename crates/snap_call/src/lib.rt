@@ -241,25 +241,14 @@ fn write_points(n: usize, shares: &[f64], scale: u32, coordinates: &mut [i64])
     }
 }
 
-// The most vertices that a shell may have.
-const MOST_VERTICES: usize = 4096;
-
 // Snaps n points, two shares to each, to three coordinates each. Every point is looked at before the first is written.
 pub fn snap_points(n: usize, shares: &[f64], scale: u32, coordinates: &mut [i64]) -> SnapAnswer
     ensures answer { λ r. ⌜ snapToAnswer r ≡ snapCall n (now (shares .entry)) scale (now (coordinates .entry)) .answer ⌝ }
     ensures coordinates { λ r. ⌜ now (coordinates .exit) ≡ snapCall n (now (shares .entry)) scale (now (coordinates .entry)) .coordinates ⌝ }
 {
-    if n < 3 {
-        return SnapAnswer::Refused(1);
-    }
-    if n > MOST_VERTICES {
-        return SnapAnswer::Refused(1);
-    }
-    if shares.len() != 2 * n {
-        return SnapAnswer::Refused(2);
-    }
-    if coordinates.len() != 3 * n {
-        return SnapAnswer::Refused(2);
+    let number = lent_slices::snap_rows(n, shares.len(), coordinates.len());
+    if number != 0 {
+        return SnapAnswer::Refused(number);
     }
     if scale_allowed(scale) {
         let found = find_refusal(n, shares, scale);

@@ -1,7 +1,6 @@
 -- The theory of drawn points: `Floor` the whole number below a fraction, `Bits` the f64 that a bit pattern stands for, `Share` the snapping of a share,
--- with the theorem that its whole number is the only right one, `Points` points in turn, `CallOutcomes` the public call row by row.
+-- with the theorem that its whole number is the only right one, `Points` points in turn.
 pub mod Floor
 pub mod Bits
 pub mod Share
 pub mod Points
-pub mod CallOutcomes

@@ -6,34 +6,13 @@ use borrow.Author.Needs.{needs}
 use Rattle.hashcliff.proofs.backward_c.Statement.{statement}
 use Rattle.hashcliff.proofs.backward_c.Tie as tie
 
-backward-requires : tie.Need-backward-requires
-backward-requires c κs = search needs
-
 enum-told : tie.Need-enum-told
 enum-told c = search needs
-
-enum-known-number : tie.Need-enum-known-number
-enum-known-number c = search needs
-
-cast-result : tie.Need-cast-result
-cast-result c = search needs
-
-same-length : tie.Need-same-length
-same-length c = search needs
-
-same-length-2 : tie.Need-same-length-2
-same-length-2 c = search needs
 
 returns : tie.Need-returns
 returns c =
     let ran = c .before .before .before .before .backward in
     (ap numberOf (sym (ap mapToAnswer (c .enum-told .given .1)) ∙ ran .ensures .0), ran .ensures .1)
-
-same-length-3 : tie.Need-same-length-3
-same-length-3 c = search needs
-
-same-length-4 : tie.Need-same-length-4
-same-length-4 c = search needs
 
 returns-2 : tie.Need-returns-2
 returns-2 c =
@@ -44,13 +23,13 @@ pub backward-c-spec : {M : Type 1} → statement M
 backward-c-spec =
     tie.close
     (tie.spec
-    backward-requires
+    (λ c κs. search needs)
     enum-told
-    enum-known-number
-    cast-result
-    same-length
-    same-length-2
+    (λ c. search needs)
+    (λ c. search needs)
+    (λ c. search needs)
+    (λ c. search needs)
     returns
-    same-length-3
-    same-length-4
+    (λ c. search needs)
+    (λ c. search needs)
     returns-2)

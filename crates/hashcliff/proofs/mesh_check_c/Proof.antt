@@ -6,29 +6,14 @@ use borrow.Author.Needs.{needs}
 use Rattle.hashcliff.proofs.mesh_check_c.Statement.{statement}
 use Rattle.hashcliff.proofs.mesh_check_c.Tie as tie
 
-check-requires : tie.Need-check-requires
-check-requires c κs = search needs
-
 enum-told : tie.Need-enum-told
 enum-told c = search needs
-
-enum-known-number : tie.Need-enum-known-number
-enum-known-number c = search needs
-
-cast-result : tie.Need-cast-result
-cast-result c = search needs
-
-same-length : tie.Need-same-length
-same-length c = search needs
 
 returns : tie.Need-returns
 returns c = (
   ap numberOf (sym (ap meshToAnswer (c .enum-told .given .1)) ∙ c .before .before .before .check .ensures .0),
   c .before .before .before .check .ensures .1,
 )
-
-same-length-2 : tie.Need-same-length-2
-same-length-2 c = search needs
 
 returns-2 : tie.Need-returns-2
 returns-2 c = (
@@ -40,11 +25,11 @@ pub mesh-check-c-spec : {M : Type 1} → statement M
 mesh-check-c-spec =
     tie.close
     (tie.spec
-    check-requires
+    (λ c κs. search needs)
     enum-told
-    enum-known-number
-    cast-result
-    same-length
+    (λ c. search needs)
+    (λ c. search needs)
+    (λ c. search needs)
     returns
-    same-length-2
+    (λ c. search needs)
     returns-2)

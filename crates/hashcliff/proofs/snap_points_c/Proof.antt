@@ -6,23 +6,8 @@ use borrow.Author.Needs.{needs}
 use Rattle.hashcliff.proofs.snap_points_c.Statement.{statement}
 use Rattle.hashcliff.proofs.snap_points_c.Tie as tie
 
-snap-points-requires : tie.Need-snap-points-requires
-snap-points-requires c κs = search needs
-
 enum-told : tie.Need-enum-told
 enum-told c = search needs
-
-enum-known-number : tie.Need-enum-known-number
-enum-known-number c = search needs
-
-cast-result : tie.Need-cast-result
-cast-result c = search needs
-
-enum-known-share : tie.Need-enum-known-share
-enum-known-share c = search needs
-
-same-length : tie.Need-same-length
-same-length c = search needs
 
 returns : tie.Need-returns
 returns c =
@@ -30,17 +15,11 @@ returns c =
     let a = sym (ap snapToAnswer (c .enum-told .given .1)) ∙ snap .ensures .0 in
     (ap numberOf a, (snap .ensures .1, ap (shareOf _) a))
 
-same-length-2 : tie.Need-same-length-2
-same-length-2 c = search needs
-
 returns-2 : tie.Need-returns-2
 returns-2 c =
     let snap = c .before .before .before .before .snap-points in
     let a = sym (ap snapToAnswer (c .before .number .given .1)) ∙ snap .ensures .0 in
     (ap numberOf a, (snap .ensures .1, ap (shareOf _) a))
-
-same-length-3 : tie.Need-same-length-3
-same-length-3 c = search needs
 
 returns-3 : tie.Need-returns-3
 returns-3 c =
@@ -52,14 +31,14 @@ pub snap-points-c-spec : {M : Type 1} → statement M
 snap-points-c-spec =
     tie.close
     (tie.spec
-    snap-points-requires
+    (λ c κs. search needs)
     enum-told
-    enum-known-number
-    cast-result
-    enum-known-share
-    same-length
+    (λ c. search needs)
+    (λ c. search needs)
+    (λ c. search needs)
+    (λ c. search needs)
     returns
-    same-length-2
+    (λ c. search needs)
     returns-2
-    same-length-3
+    (λ c. search needs)
     returns-3)

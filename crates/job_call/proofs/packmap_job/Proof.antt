@@ -6,24 +6,6 @@ use borrow.Author.Needs.{needs}
 use Rattle.job_call.proofs.packmap_job.Statement.{statement}
 use Rattle.job_call.proofs.packmap_job.Tie as tie
 
-run-requires : tie.Need-run-requires
-run-requires c κs = search needs
-
-enum-known-length : tie.Need-enum-known-length
-enum-known-length c = search needs
-
-enum-known-number : tie.Need-enum-known-number
-enum-known-number c = search needs
-
-cast-result : tie.Need-cast-result
-cast-result c = search needs
-
-add-result : tie.Need-add-result
-add-result c = search needs
-
-enum-known-line : tie.Need-enum-known-line
-enum-known-line c = search needs
-
 add-result-2 : tie.Need-add-result-2
 add-result-2 c = let r = c .before .before .before .before .before .run in
     record { fits = omega (arith, near-line (r .result) (r .ensures .1 .1) _ (c .before .line .given .1)) }
@@ -36,52 +18,34 @@ add-result-3 : tie.Need-add-result-3
 add-result-3 c = let r = c .before .before .before .before .before .run in
     record { fits = omega (arith, near-line (r .result) (r .ensures .1 .1) _ (c .before .line .given .1)) }
 
-same-length : tie.Need-same-length
-same-length c = search needs
-
 returns : tie.Need-returns
 returns c = let r = c .before .before .before .before .before .run in
-    let a = c .before .before .before .before .before .before .before .before .before .args in (
-      host-listed (a .text .now) (a .listing .now) (r .result) (r .ensures .0) _ (c .before .length .given .1),
-      r .ensures .1 .0 ∙ host (a .text .now) (a .listing .now) .1,
-    )
-
-same-length-2 : tie.Need-same-length-2
-same-length-2 c = search needs
+    (host-listed _ _ (r .result) (r .ensures .0) _ (search), r .ensures .1 .0 ∙ host _ _ .1)
 
 returns-2 : tie.Need-returns-2
 returns-2 c = let r = c .before .before .before .before .before .run in
-    let a = c .before .before .before .before .before .before .before .before .before .args in (
-      host-refused (a .text .now) (a .listing .now) (r .result) (r .ensures .0) _ (c .before .number .given .1),
-      r .ensures .1 .0 ∙ host (a .text .now) (a .listing .now) .1,
-    )
-
-same-length-3 : tie.Need-same-length-3
-same-length-3 c = search needs
+    (host-refused _ _ (r .result) (r .ensures .0) _ (search), r .ensures .1 .0 ∙ host _ _ .1)
 
 returns-3 : tie.Need-returns-3
 returns-3 c = let r = c .before .before .before .before .before .run in
-    let a = c .before .before .before .before .before .before .before .before .before .args in (
-      host-broken (a .text .now) (a .listing .now) (r .result) (r .ensures .0) _ (c .before .line .given .1),
-      r .ensures .1 .0 ∙ host (a .text .now) (a .listing .now) .1,
-    )
+    (host-broken _ _ (r .result) (r .ensures .0) _ (search), r .ensures .1 .0 ∙ host _ _ .1)
 
 pub packmap-job-spec : {M : Type 1} → statement M
 packmap-job-spec =
     tie.close
     (tie.spec
-    run-requires
-    enum-known-length
-    enum-known-number
-    cast-result
-    add-result
-    enum-known-line
+    (λ c κs. search needs)
+    (λ c. search needs)
+    (λ c. search needs)
+    (λ c. search needs)
+    (λ c. search needs)
+    (λ c. search needs)
     add-result-2
     mul-result
     add-result-3
-    same-length
+    (λ c. search needs)
     returns
-    same-length-2
+    (λ c. search needs)
     returns-2
-    same-length-3
+    (λ c. search needs)
     returns-3)

@@ -10,45 +10,25 @@ use borrow.Author.Needs.{needs}
 use Rattle.job_call.proofs.run.Statement.{statement}
 use Rattle.job_call.proofs.run.Tie as tie
 
-slice-aggregate-read-job : tie.Need-slice-aggregate-read-job
-slice-aggregate-read-job c = search needs
-
-slice-aggregate-read-job-2 : tie.Need-slice-aggregate-read-job-2
-slice-aggregate-read-job-2 c = search needs
-
-read-job-requires : tie.Need-read-job-requires
-read-job-requires c κs = search needs
-
-enum-known-n : tie.Need-enum-known-n
-enum-known-n c = search needs
-
 mul-triangles : tie.Need-mul-triangles
-mul-triangles c = omega (
-  arith,
-  job-sized (c .before .before .before .before .before .read-job .result) _ (c .before .n .given .1)
-      (c .before .before .before .before .before .read-job .ensures .1),
-)
+mul-triangles c =
+    let after-read-job : tie.After-read-job = search in
+    omega (arith, job-sized _ _ (c .before .n .given .1) (after-read-job .read-job .ensures .1))
 
 sub-triangles : tie.Need-sub-triangles
-sub-triangles c = omega (
-  arith,
-  job-sized (c .before .before .before .before .before .read-job .result) _ (c .before .n .given .1)
-      (c .before .before .before .before .before .read-job .ensures .1),
-)
+sub-triangles c =
+    let after-read-job : tie.After-read-job = search in
+    omega (arith, job-sized _ _ (c .before .n .given .1) (after-read-job .read-job .ensures .1))
 
 mul-triangles-2 : tie.Need-mul-triangles-2
-mul-triangles-2 c = omega (
-  arith,
-  job-sized (c .before .before .before .before .before .read-job .result) _ (c .before .n .given .1)
-      (c .before .before .before .before .before .read-job .ensures .1),
-)
+mul-triangles-2 c =
+    let after-read-job : tie.After-read-job = search in
+    omega (arith, job-sized _ _ (c .before .n .given .1) (after-read-job .read-job .ensures .1))
 
 array-share-prefix-triangles : tie.Need-array-share-prefix-triangles
-array-share-prefix-triangles c = omega (
-  arith,
-  job-sized (c .before .before .before .before .before .read-job .result) _ (c .before .n .given .1)
-      (c .before .before .before .before .before .read-job .ensures .1),
-)
+array-share-prefix-triangles c =
+    let after-read-job : tie.After-read-job = search in
+    omega (arith, job-sized _ _ (c .before .n .given .1) (after-read-job .read-job .ensures .1))
 
 slice-aggregate-finish : tie.Need-slice-aggregate-finish
 slice-aggregate-finish c = let r = c .before .before .before .before .before .before .read-job in
@@ -60,25 +40,22 @@ slice-aggregate-finish c = let r = c .before .before .before .before .before .be
     )))
 
 mul-weights : tie.Need-mul-weights
-mul-weights c = omega (
-  arith,
-  job-sized (c .before .before .before .before .before .before .read-job .result) _ (c .before .before .n .given .1)
-      (c .before .before .before .before .before .before .read-job .ensures .1),
-)
+mul-weights c =
+    let after-read-job : tie.After-read-job = search in
+    let after-n : tie.After-n = search in
+    omega (arith, job-sized _ _ (after-n .n .given .1) (after-read-job .read-job .ensures .1))
 
 sub-weights : tie.Need-sub-weights
-sub-weights c = omega (
-  arith,
-  job-sized (c .before .before .before .before .before .before .read-job .result) _ (c .before .before .n .given .1)
-      (c .before .before .before .before .before .before .read-job .ensures .1),
-)
+sub-weights c =
+    let after-read-job : tie.After-read-job = search in
+    let after-n : tie.After-n = search in
+    omega (arith, job-sized _ _ (after-n .n .given .1) (after-read-job .read-job .ensures .1))
 
 array-borrow-prefix-weights : tie.Need-array-borrow-prefix-weights
-array-borrow-prefix-weights c = omega (
-  arith,
-  job-sized (c .before .before .before .before .before .before .read-job .result) _
-      (c .before .before .n .given .1) (c .before .before .before .before .before .before .read-job .ensures .1),
-)
+array-borrow-prefix-weights c =
+    let after-read-job : tie.After-read-job = search in
+    let after-n : tie.After-n = search in
+    omega (arith, job-sized _ _ (after-n .n .given .1) (after-read-job .read-job .ensures .1))
 
 slice-aggregate-finish-2 : tie.Need-slice-aggregate-finish-2
 slice-aggregate-finish-2 c = let r = c .before .before .before .before .before .before .before .read-job in
@@ -99,52 +76,33 @@ finish-requires c κs = let r = c .before .before .before .before .before .befor
       weights = length-take-le _ (r .last .1 .1 .0) (omega (arith, s, r .kept .1 .1 .0, length-replicate 507 (pos 0)));
     }
 
-enum-told : tie.Need-enum-told
-enum-told c = search needs
-
-enum-told-2 : tie.Need-enum-told-2
-enum-told-2 c = search needs
-
-enum-known-line : tie.Need-enum-known-line
-enum-known-line c = search needs
-
-same-length : tie.Need-same-length
-same-length c = search needs
-
 returns : tie.Need-returns
 returns c = let r = c .before .before .before .before .before .before .before .before .before .before .before .before .read-job in
-    let f = c .before .before .before .finish in
-    let a = c .before .before .before .before .before .before .before .before .before .before .before .before .before .before .before .before .before .args in
-    let E = run-finish (a .text .now) (r .result) (r .last .1 .0) (r .last .1 .1 .0) (r .ensures .0) _
-    (c .before .before .before .before .before .before .before .before .n .given .1) (a .listing .now) (f .last .1 .1 .1 .0) (f .result) (f .ensures) in
-    (E .answer, (E .buffer, E .line))
+    let f = c .before .before .before .finish in let E = run-finish _ (r .result) (r .last .1 .0) (r .last .1 .1 .0) (r .ensures .0) _ (search) _
+    (f .last .1 .1 .1 .0) (f .result) (f .ensures) in (E .answer, (E .buffer, E .line))
 
 returns-2 : tie.Need-returns-2
 returns-2 c = let r = c .before .before .before .before .read-job in
-    let a = c .before .before .before .before .before .before .before .before .before .args in
-    let E = run-long (a .text .now) (r .result) (r .last .1 .0) (r .last .1 .1 .0) (r .ensures .0) (c .enum-told .given .1) (a .listing .now) in
-    (E .answer, (E .buffer, E .line))
+    let E = run-long _ (r .result) (r .last .1 .0) (r .last .1 .1 .0) (r .ensures .0) (search) _ in (E .answer, (E .buffer, E .line))
 
 returns-3 : tie.Need-returns-3
 returns-3 c = let r = c .before .before .before .before .read-job in
-    let a = c .before .before .before .before .before .before .before .before .before .args in
-    let E = run-size (a .text .now) (r .result) (r .last .1 .0) (r .last .1 .1 .0) (r .ensures .0) (c .enum-told2 .given .1) (a .listing .now) in
-    (E .answer, (E .buffer, E .line))
+    let E = run-size _ (r .result) (r .last .1 .0) (r .last .1 .1 .0) (r .ensures .0) (search) _ in (E .answer, (E .buffer, E .line))
 
 returns-4 : tie.Need-returns-4
-returns-4 c = let r = c .before .before .before .before .before .read-job in
-    let a = c .before .before .before .before .before .before .before .before .before .before .args in
-    let E = run-line (a .text .now) (r .result) (r .last .1 .0) (r .last .1 .1 .0) (r .ensures .0) _ (c .before .line .given .1) (a .listing .now) in
+returns-4 c =
+    let after-read-job : tie.After-read-job = search in
+    let r = after-read-job .read-job in let E = run-line _ (r .result) (r .last .1 .0) (r .last .1 .1 .0) (r .ensures .0) _ (c .before .line .given .1) _ in
     (E .answer, (E .buffer, E .line))
 
 pub run-spec : {M : Type 1} → statement M
 run-spec =
     tie.close
     (tie.spec
-    slice-aggregate-read-job
-    slice-aggregate-read-job-2
-    read-job-requires
-    enum-known-n
+    (λ c. search needs)
+    (λ c. search needs)
+    (λ c κs. search needs)
+    (λ c. search needs)
     mul-triangles
     sub-triangles
     mul-triangles-2
@@ -155,10 +113,10 @@ run-spec =
     array-borrow-prefix-weights
     slice-aggregate-finish-2
     finish-requires
-    enum-told
-    enum-told-2
-    enum-known-line
-    same-length
+    (λ c. search needs)
+    (λ c. search needs)
+    (λ c. search needs)
+    (λ c. search needs)
     returns
     returns-2
     returns-3

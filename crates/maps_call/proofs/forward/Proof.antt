@@ -1,60 +1,31 @@
--- `maps_call::forward` meets its contract, by what `early`, `run_forward` and `clear` ensure. Assumes nothing.
-use mathlib.Core.Path.{sym, _∙_}
-use Rattle.mesh_check.specs.CallOutcomes.{cleared}
-use Rattle.maps_call.specs.FirstRows.{lengths}
+-- `maps_call::forward` meets its contract: each way out is a law of the definition. Assumes nothing.
+use native.Mathlib.Omega.{arith}
+use Rattle.lent_slices.specs.MapLengths.{map-lengths}
 use Rattle.maps_call.specs.CallOutcomes.{forward-early, forward-scratch}
 use borrow.Author.Needs.{needs}
 use Rattle.maps_call.proofs.forward.Statement.{statement}
 use Rattle.maps_call.proofs.forward.Tie as tie
 
-first-rows-requires : tie.Need-first-rows-requires
-first-rows-requires c κs = search needs
-
 returns : tie.Need-returns
-returns c = forward-early (c .before .before .before .args .n) (c .before .before .before .args .triangles .now)
-    (c .before .before .before .args .weights .now) (c .before .before .before .args .coordinates .now) (c .before .before .before .args .scratch .now)
-    (c .before .first-rows .result) (c .before .first-rows .ensures) (c .if1 .taken)
+returns c = forward-early _ _ _ _ _ _ (search) (search)
 
 run-forward-requires : tie.Need-run-forward-requires
-run-forward-requires c κs = lengths (c .before .before .before .before .before .args .n) _ _ _ _ (sym (c .before .before .before .first-rows .ensures)
-    ∙ c .before .before .if1 .left)
-
-clear-requires : tie.Need-clear-requires
-clear-requires c κs = search needs
-
-same-length : tie.Need-same-length
-same-length c = search needs
-
-same-length-2 : tie.Need-same-length-2
-same-length-2 c = search needs
+run-forward-requires c κs = search map-lengths
 
 returns-2 : tie.Need-returns-2
-returns-2 c = (
-  c .before .before .before .before .before .run-forward .ensures .0,
-  (
-    c .before .before .before .before .before .run-forward .ensures .1,
-    c .before .clear .ensures ∙ cleared (c .before .before .before .before .before .before .before .before .before .before .before .args .scratch .now)
-        (c .before .before .before .before .before .run-forward .last .1 .1 .1 .1 .0)
-        (c .before .before .before .before .before .run-forward .kept .1 .1 .1 .1 .0)
-        ∙ forward-scratch (c .before .before .before .before .before .before .before .before .before .before .before .args .n)
-        (c .before .before .before .before .before .before .before .before .before .before .before .args .triangles .now)
-        (c .before .before .before .before .before .before .before .before .before .before .before .args .weights .now)
-        (c .before .before .before .before .before .before .before .before .before .before .before .args .coordinates .now)
-        (c .before .before .before .before .before .before .before .before .before .before .before .args .scratch .now)
-        (lengths (c .before .before .before .before .before .before .before .before .before .before .before .args .n) _ _ _ _
-        (sym (c .before .before .before .before .before .before .before .before .before .first-rows .ensures)
-        ∙ c .before .before .before .before .before .before .before .before .if1 .left)),
-  ),
-)
+returns-2 c =
+    let rows : tie.After-map-rows = search in
+    let run : tie.After-run-forward = search in
+    (run .run-forward .ensures .0, (run .run-forward .ensures .1, forward-scratch _ _ _ _ _ (map-lengths _ _ _ _ _ _ (rows .map-rows .ensures) (search)) (run .run-forward .last .1 .1 .1 .1 .0) _ (omega arith) (c .before .clear .ensures)))
 
 pub forward-spec : {M : Type 1} → statement M
 forward-spec =
     tie.close
     (tie.spec
-    first-rows-requires
+    (λ c κs. search needs)
     returns
     run-forward-requires
-    clear-requires
-    same-length
-    same-length-2
+    (λ c κs. search needs)
+    (λ c. search needs)
+    (λ c. search needs)
     returns-2)

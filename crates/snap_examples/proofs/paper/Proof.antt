@@ -10,17 +10,9 @@ use borrow.Author.Needs.{needs}
 use Rattle.snap_examples.proofs.paper.Statement.{statement}
 use Rattle.snap_examples.proofs.paper.Tie as tie
 
-snapped-requires : tie.Need-snapped-requires
-snapped-requires c κs = search needs
-
 expect-requires : tie.Need-expect-requires
 unfolding wholeOf ofBits neg
-expect-requires c κs =
-    let k : c .before .before .snapped .result .whole ≡ pos 8 = c .before .before .snapped .ensures in
-    ap (λ (z : ℤ). eqb (ofZ w64 z) 8) k
-
-snapped-requires-2 : tie.Need-snapped-requires-2
-snapped-requires-2 c κs = search needs
+expect-requires c κs = cc
 
 expect-requires-2 : tie.Need-expect-requires-2
 unfolding wholeOf ofBits neg
@@ -28,17 +20,11 @@ expect-requires-2 c κs =
     let k : c .before .before .snapped2 .result .whole ≡ pos 0 = c .before .before .snapped2 .ensures in
     ap (λ (z : ℤ). eqb (ofZ w64 z) 0) k
 
-snapped-requires-3 : tie.Need-snapped-requires-3
-snapped-requires-3 c κs = search needs
-
 expect-requires-3 : tie.Need-expect-requires-3
 unfolding wholeOf ofBits neg
 expect-requires-3 c κs =
     let k : c .before .before .snapped3 .result .whole ≡ negsuc 0 = c .before .before .snapped3 .ensures in
     ap (λ (z : ℤ). eqb (ofZ w64 z) 18446744073709551615) k
-
-snapped-requires-4 : tie.Need-snapped-requires-4
-snapped-requires-4 c κs = search needs
 
 expect-requires-4 : tie.Need-expect-requires-4
 unfolding wholeOf ofBits neg
@@ -46,19 +32,16 @@ expect-requires-4 c κs =
     let k : c .before .before .snapped4 .result .whole ≡ pos 33554432 = c .before .before .snapped4 .ensures in
     ap (λ (z : ℤ). eqb (ofZ w64 z) 33554432) k
 
-returns : tie.Need-returns
-returns c = search needs
-
 pub paper-spec : {M : Type 1} → statement M
 paper-spec =
     tie.close
     (tie.spec
-    snapped-requires
+    (λ c κs. search needs)
     expect-requires
-    snapped-requires-2
+    (λ c κs. search needs)
     expect-requires-2
-    snapped-requires-3
+    (λ c κs. search needs)
     expect-requires-3
-    snapped-requires-4
+    (λ c κs. search needs)
     expect-requires-4
-    returns)
+    (λ c. search needs))

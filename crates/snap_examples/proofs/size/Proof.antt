@@ -32,29 +32,19 @@ pos-cast : (z : ℤ) → SFits w64 z → ltZ z (pos 0) ≡ false → T (nonNeg z
 pos-cast (pos n) f l = (tt, record { fits = omega arith })
 pos-cast (negsuc n) f l = absurd (true≢false l)
 
-returns : tie.Need-returns
-returns c = search needs
-
 abbrev read : tie.Then2 → ℤ
 read c = toZ w64 (ofZ w64 (c .before .before .args .k))
 
 sub-result : tie.Need-sub-result
-sub-result c = neg-fits (read c) (c .before .if1 .left) (c .if2 .taken)
+sub-result c = search (neg-fits, read)
 
 cast-result : tie.Need-cast-result
-cast-result c =
-    subst (λ (z : ℤ). T (nonNeg z) × Fits w64 (natAbs z)) (sym (toZ-ofZ (neg-fits (read c) (c .before .if1 .left) (c .if2 .taken))))
-    (neg-cast (read c) (c .before .if1 .left) (c .if2 .taken))
-
-returns-2 : tie.Need-returns-2
-returns-2 c = search needs
+cast-result c = subst (λ (z : ℤ). T (nonNeg z) × Fits w64 (natAbs z)) (sym (toZ-ofZ (neg-fits (read c) (search) (search))))
+    (neg-cast (read c) (search) (search))
 
 cast-result-2 : tie.Need-cast-result-2
 cast-result-2 c = pos-cast (toZ w64 (ofZ w64 (c .before .before .args .k)))
     (subst (SFits w64) (sym (toZ-ofZ (c .before .before .fits .k))) (c .before .before .fits .k)) (c .if2 .left)
 
-returns-3 : tie.Need-returns-3
-returns-3 c = search needs
-
 pub size-spec : {M : Type 1} → statement M
-size-spec = tie.close (tie.spec returns sub-result cast-result returns-2 cast-result-2 returns-3)
+size-spec = tie.close (tie.spec (λ c. search needs) sub-result cast-result (λ c. search needs) cast-result-2 (λ c. search needs))

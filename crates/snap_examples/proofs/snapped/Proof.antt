@@ -9,21 +9,6 @@ use borrow.Author.Needs.{needs}
 use Rattle.snap_examples.proofs.snapped.Statement.{statement}
 use Rattle.snap_examples.proofs.snapped.Tie as tie
 
-slice-aggregate-snap-points : tie.Need-slice-aggregate-snap-points
-slice-aggregate-snap-points c = search needs
-
-slice-aggregate-snap-points-2 : tie.Need-slice-aggregate-snap-points-2
-slice-aggregate-snap-points-2 c = search needs
-
-snap-points-requires : tie.Need-snap-points-requires
-snap-points-requires c κs = search needs
-
-number-requires : tie.Need-number-requires
-number-requires c κs = search needs
-
-array-copy-out-t13 : tie.Need-array-copy-out-t13
-array-copy-out-t13 c = search needs
-
 returns : tie.Need-returns
 unfolding wholeOf
 returns c =
@@ -33,9 +18,9 @@ pub snapped-spec : {M : Type 1} → statement M
 snapped-spec =
     tie.close
     (tie.spec
-    slice-aggregate-snap-points
-    slice-aggregate-snap-points-2
-    snap-points-requires
-    number-requires
-    array-copy-out-t13
+    (λ c. search needs)
+    (λ c. search needs)
+    (λ c κs. search needs)
+    (λ c κs. search needs)
+    (λ c. search needs)
     returns)

@@ -1,0 +1,115 @@
+-- The snapping call, row by row: what it gives where a row refuses, and where none does. Assumes nothing.
+use Prim.Native.Nat.{ℕ, _*_}
+use mathlib.Core.Path.{_≡_, refl, sym, ap, _∙_}
+use mathlib.Core.Logic.{inl, inr}
+use mathlib.Core.Bool.{Bool, true, false, not}
+use mathlib.Core.List.{List, [], _∷_}
+use mathlib.Core.Option.{Option, none, some}
+use lib.IntN.{ℤ}
+use lib.Ieee.{Float}
+use lib.ListN.{length}
+use Rattle.definitions.specs.Answers.{Refusal, numbered, Answer, done, refused}
+use Rattle.definitions.specs.Mesh.{pointsLength, coordinatesLength}
+use Rattle.definitions.specs.DrawnPoints.{scaleAllowed, snapAll}
+use Rattle.definitions.specs.Refusals.{row1, row2, mostVertices, Slice, slice, Snapped, snapCall}
+use Rattle.laws.specs.Lists.{tested}
+use Rattle.theory_sphere.specs.FirstRefusal.{row2-cons}
+use Rattle.lent_slices.specs.Lengths.{firstRows, first-0, first-1, first-2, none-found}
+use Rattle.snap_model.specs.Points.{settled, new, not-refused}
+
+-- the first of three rows that finds something, and what comes of it
+unfoldable found : Bool → Bool → Bool → Option ℕ
+found a b c =
+    elim a [
+      | true ↦ some 1
+      | false ↦ elim b [ true ↦ some 2 | false ↦ elim c [ true ↦ some 14 | false ↦ none ] ]
+    ]
+
+unfoldable outcome : Option ℕ → Answer (List ℤ) → List ℤ → Snapped
+outcome f w bs =
+    elim f [
+      | some k ↦ record { answer = refused (numbered k); coordinates = bs }
+      | none ↦
+          elim w [
+            | refused why ↦ record { answer = refused why; coordinates = bs }
+            | done new ↦ record { answer = done tt; coordinates = new }
+          ]
+    ]
+
+-- the call, in these words
+call : (n : ℕ) (shares : List Float) (r : ℕ) (bs : List ℤ)
+    → snapCall n shares r bs
+    ≡ outcome (found (row1 mostVertices n) (row2 (slice (length shares) (pointsLength n) ∷ slice (length bs) (coordinatesLength n) ∷ []))
+    (not (scaleAllowed r))) (snapAll r shares) bs
+unfolding snapCall found outcome
+call n shares r bs = refl
+
+-- ---- the call
+
+is-refused : (w : Answer (List ℤ)) (bs : List ℤ) → (settled w ≡ done tt → ⊥) →
+    outcome none w bs ≡ record { answer = settled w; coordinates = bs }
+unfolding outcome
+is-refused (refused why) bs h = refl
+is-refused (done cs) bs h = absurd (h refl)
+
+is-done : (w : Answer (List ℤ)) (bs : List ℤ) → settled w ≡ done tt → outcome none w bs ≡ record { answer = done tt; coordinates = new w }
+unfolding outcome
+is-done (refused why) bs h = absurd (not-refused why h)
+is-done (done cs) bs h = refl
+
+module _ (n : ℕ) (shares : List Float) (r : ℕ) (bs : List ℤ) where
+  -- it answers a, and leaves cs in the coordinates
+  abbrev pub Gives : Answer (Unit {0}) → List ℤ → Type 0
+  Gives a cs = (a ≡ snapCall n shares r bs .answer) × (cs ≡ snapCall n shares r bs .coordinates)
+
+  gives : (o : Snapped) → snapCall n shares r bs ≡ o → Gives (o .answer) (o .coordinates)
+  gives o e = (ap (λ (s : Snapped). s .answer) (sym e), ap (λ (s : Snapped). s .coordinates) (sym e))
+
+  abbrev same : Refusal → Snapped
+  same why = record { answer = refused why; coordinates = bs }
+
+  abbrev lent : List Slice
+  lent = slice (length shares) (pointsLength n) ∷ slice (length bs) (coordinatesLength n) ∷ []
+
+  module _ (k : ℕ) (e : k ≡ firstRows n lent) where
+    -- rows 1 and 2
+    pub gives-early : (k ≡ 0 → ⊥) → Gives (refused (numbered k)) bs
+    gives-early f =
+        elim (tested (row1 mostVertices n)) [
+          | inl g ↦
+              let z : k ≡ 1 = e ∙ sym (first-1 n lent g) in
+              rw z (gives (same (numbered 1)) (rw (call n shares r bs, g) (unfold found outcome in refl)))
+          | inr g ↦ elim (tested (row2 lent)) [
+            | inl h ↦
+                let z : k ≡ 2 = e ∙ sym (first-2 n lent g h) in
+                rw z (gives (same (numbered 2)) (rw (call n shares r bs, g, h) (unfold found outcome in refl)))
+            | inr h ↦ absurd (f (e ∙ sym (first-0 n lent g h)))
+          ]
+        ]
+
+    module _ (z : k ≡ 0) where
+      -- where they find nothing, the lengths are right
+      pub long : (length shares ≡ 2 * n) × (length bs ≡ 3 * n)
+      long =
+          let f = none-found n lent k e z in
+          let p = row2-cons (length shares) (pointsLength n) (slice (length bs) (coordinatesLength n) ∷ []) .0 (f .1) in
+          (p .0, row2-cons (length bs) (coordinatesLength n) [] .0 (p .1) .0)
+
+      -- row 14
+      pub gives-scale : scaleAllowed r ≡ false → Gives (refused (numbered 14)) bs
+      gives-scale g =
+          let f = none-found n lent k e z in
+          gives (same (numbered 14)) (rw (call n shares r bs, f .0, f .1, g) (unfold found outcome in refl))
+
+      -- no row of the first three finds anything: the points decide
+      module _ (g : scaleAllowed r ≡ true) where
+        decided : snapCall n shares r bs ≡ outcome none (snapAll r shares) bs
+        decided = let f = none-found n lent k e z in rw (call n shares r bs, f .0, f .1, g) (unfold found in refl)
+
+        -- the first that is refused is answered, and the coordinates stay as lent
+        pub gives-refusal : (settled (snapAll r shares) ≡ done tt → ⊥) → Gives (settled (snapAll r shares)) bs
+        gives-refusal s = gives (record { answer = settled (snapAll r shares); coordinates = bs }) (decided ∙ is-refused (snapAll r shares) bs s)
+
+        -- none is, and the coordinates are theirs
+        pub gives-done : settled (snapAll r shares) ≡ done tt → Gives (done tt) (new (snapAll r shares))
+        gives-done s = gives (record { answer = done tt; coordinates = new (snapAll r shares) }) (decided ∙ is-done (snapAll r shares) bs s)
