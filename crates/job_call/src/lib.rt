@@ -1,5 +1,7 @@
 // A job from its text to its listing: the text is read, the weights are repaired, and the listing is written. The call for the host service is the last one.
+use lent_slices::SCRATCH_WORDS;
 use repair_call::RepairAnswer;
+use text_read_job::MOST_VERTICES;
 use text_read_job::Reading;
 use text_write_listing::Listed;
 ghost use mathlib.Core.Path.{_≡_};
@@ -17,6 +19,15 @@ pub enum JobAnswer {
     Refused(u32),
     Broken(usize),
 }
+
+// the lengths that the largest job wants
+const TRIANGLES: usize = 3 * (2 * MOST_VERTICES - 4);
+
+const WEIGHTS: usize = 2 * MOST_VERTICES - 5;
+
+const COORDINATES: usize = 3 * MOST_VERTICES;
+
+const SCRATCH: usize = SCRATCH_WORDS * MOST_VERTICES;
 
 // The listing of repaired weights, by their coordinates. N is b0 of v0.
 fn list(
@@ -42,10 +53,16 @@ fn finish(n: usize, triangles: &[u16], weights: &mut [i64], listing: &mut [u8]) 
     requires { ⌜ Fitting n (now triangles) (now weights) ⌝ }
     ensures { λ r. ⌜ Ends (ran n (now (triangles .entry)) (now (weights .entry))) (now (listing .entry)) (now (listing .exit)) r ⌝ }
 {
-    let mut coordinates: [i64; 768] = [0; 768];
-    let mut scratch: [i64; 6144] = [0; 6144];
+    let mut coordinates: [i64; COORDINATES] = [0; COORDINATES];
+    let mut scratch: [i64; SCRATCH] = [0; SCRATCH];
     let places = &mut coordinates[..3 * n];
-    match repair_call::repair(n, triangles, weights, places, &mut scratch[..24 * n]) {
+    match repair_call::repair(
+        n,
+        triangles,
+        weights,
+        places,
+        &mut scratch[..SCRATCH_WORDS * n],
+    ) {
         RepairAnswer::Repaired(raises) => list(n, triangles, raises, places, listing),
         RepairAnswer::Refused(number) => JobAnswer::Refused(number),
         RepairAnswer::Stopped(_) => JobAnswer::Refused(13),
@@ -58,8 +75,8 @@ pub fn run(text: &[u8], listing: &mut [u8]) -> JobAnswer
     ensures listing { λ r. ⌜ now (listing .exit) ≡ outcome (runJob (now (text .entry))) (now (listing .entry)) .buffer ⌝ }
     ensures line { λ r. ⌜ Near r ⌝ }
 {
-    let mut triangles: [u16; 1524] = [0; 1524];
-    let mut weights: [i64; 507] = [0; 507];
+    let mut triangles: [u16; TRIANGLES] = [0; TRIANGLES];
+    let mut weights: [i64; WEIGHTS] = [0; WEIGHTS];
     match text_read_job::read_job(text, &mut triangles, &mut weights) {
         Reading::Job(n) => finish(
             n,

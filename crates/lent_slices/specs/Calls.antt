@@ -1,4 +1,5 @@
--- What rows 1 and 2 leave to every call on a mesh: which rows are asked then, that their numbers are 3 or more, and so that scratch holds zeros. Assumes nothing.
+-- What rows 1 and 2 leave to every call on a mesh: which rows are asked then, that their numbers are 3 or more, and so that scratch holds zeros. Assumes
+-- nothing.
 use Prim.Native.Nat.{ℕ, _≤_}
 use mathlib.Core.Path.{_≡_, refl, sym, ap, _∙_}
 use mathlib.Core.Logic.{inl, inr}

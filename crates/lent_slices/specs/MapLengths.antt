@@ -1,4 +1,5 @@
--- The lengths of the slices that the maps and repair are lent: weights and coordinates besides the triangles and the scratch, in either order. Assumes nothing.
+-- The lengths of the slices that the maps and repair are lent: weights and coordinates besides the triangles and the scratch, in either order. Assumes
+-- nothing.
 use Prim.Native.Nat.{ℕ, _≤_}
 use mathlib.Core.Path.{_≡_, refl, sym, _∙_}
 use mathlib.Core.Logic.{inl, inr}

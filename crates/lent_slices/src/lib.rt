@@ -10,7 +10,7 @@ ghost use Rattle.lent_slices.specs.Lengths.{InSize, slicesOf, firstRows}
 const MOST_VERTICES: usize = 4096;
 
 // words of scratch for each vertex
-const SCRATCH_WORDS: usize = 24;
+pub const SCRATCH_WORDS: usize = 24;
 
 // row 1: too few vertices, or too many
 fn other_size(n: usize) -> bool

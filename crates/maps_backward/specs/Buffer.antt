@@ -1,5 +1,5 @@
 -- Weights kept in scratch, past the words of the darts. Assumes nothing.
-use Prim.Native.Nat.{ℕ, _+_, _*_, _/_, _≤_, _<_}
+use Prim.Native.Nat.{ℕ, _+_, _/_, _≤_, _<_}
 use mathlib.Core.Path.{_≡_, refl, sym, ap, fun-ext, _∙_}
 use mathlib.Core.List.{List}
 use native.Mathlib.Omega.{arith}
@@ -7,22 +7,22 @@ use native.Mathlib.Decide.{ℕ-discrete, decLt}
 use lib.ListN.{length, getD, set, length-set}
 use lib.Seq.{getD-set-same, getD-set-other, ext-getD}
 use lib.IntN.{ℤ, pos}
-use Rattle.scratch_tables.specs.Tables.{column, wordAt, tablesOf, op-in, op-past}
+use Rattle.scratch_tables.specs.Tables.{wordAt, tablesOf, op-in, op-past, pastDarts}
 use Rattle.maps_backward.specs.Slopes.{weightOf, weights, weights-at}
 
 -- scratch s holds the list xs there
 pub record Buffered (xs s : List ℤ) : Type 0 where
-  pub entries : (j : ℕ) → j < length xs → getD s (6 * column (length s) + j) (pos 0) ≡ getD xs j (pos 0)
+  pub entries : (j : ℕ) → j < length xs → getD s (pastDarts (length s) + j) (pos 0) ≡ getD xs j (pos 0)
 
 -- the words of the darts stay as they are
-op-same : (s : List ℤ) (k : ℕ) (x : ℤ) → 6 * column (length s) ≤ k → tablesOf (set s k x) .op ≡ tablesOf s .op
+op-same : (s : List ℤ) (k : ℕ) (x : ℤ) → pastDarts (length s) ≤ k → tablesOf (set s k x) .op ≡ tablesOf s .op
 unfolding wordAt
-op-same s k x h = fun-ext (λ d. elim (decLt d (6 * (length s / 10))) [
+op-same s k x h = fun-ext (λ d. elim (decLt d (pastDarts (length s))) [
   | yes q ↦
-      let b : d < 6 * (length (set s k x) / 10) = rw (length-set s k x) q in
+      let b : d < pastDarts (length (set s k x)) = rw (length-set s k x) q in
       op-in (set s k x) d b ∙ rw (getD-set-other s k d x (pos 0) (omega arith)) (sym (op-in s d q))
   | no q ↦
-      let b : 6 * (length (set s k x) / 10) ≤ d = rw (length-set s k x) (omega arith) in
+      let b : pastDarts (length (set s k x)) ≤ d = rw (length-set s k x) (omega arith) in
       sym (op-past (set s k x) d b) ∙ op-past s d (omega arith)
 ])
 
@@ -30,12 +30,12 @@ op-same s k x h = fun-ext (λ d. elim (decLt d (6 * (length s / 10))) [
 pub record Buffering (xs s₀ s : List ℤ) (i : ℕ) : Type 0 where
   pub long : length s ≡ length s₀
   pub same : tablesOf s .op ≡ tablesOf s₀ .op
-  pub entries : (j : ℕ) → j < i → getD s (6 * column (length s₀) + j) (pos 0) ≡ getD xs j (pos 0)
+  pub entries : (j : ℕ) → j < i → getD s (pastDarts (length s₀) + j) (pos 0) ≡ getD xs j (pos 0)
 
 pub keeping-none : (xs s₀ : List ℤ) → Buffering xs s₀ s₀ 0
 keeping-none xs s₀ = record { long = refl; same = refl; entries = λ j h. absurd (omega arith) }
 
-pub keeping-more : (xs s₀ s s′ : List ℤ) (i k : ℕ) (x : ℤ) → Buffering xs s₀ s i → k ≡ 6 * column (length s₀) + i → k < length s →
+pub keeping-more : (xs s₀ s s′ : List ℤ) (i k : ℕ) (x : ℤ) → Buffering xs s₀ s i → k ≡ pastDarts (length s₀) + i → k < length s →
     s′ ≡ set s k x →
     x ≡ getD xs i (pos 0) → Buffering xs s₀ s′ (i + 1)
 keeping-more xs s₀ s s′ i k x K e h r q = rw r (record {
@@ -43,7 +43,7 @@ keeping-more xs s₀ s s′ i k x K e h r q = rw r (record {
   same = op-same s k x (omega (arith, e, K .long)) ∙ K .same;
   entries = λ j b. elim (ℕ-discrete j i) [
     | yes f ↦ rw (f, ← e) (getD-set-same s k x (pos 0) h ∙ q)
-    | no f ↦ getD-set-other s k (6 * column (length s₀) + j) x (pos 0) (omega (arith, e, f)) ∙ K .entries j (omega (arith, f))
+    | no f ↦ getD-set-other s k (pastDarts (length s₀) + j) x (pos 0) (omega (arith, e, f)) ∙ K .entries j (omega (arith, f))
   ];
 })
 
@@ -59,12 +59,12 @@ kept-weight bs ts s₀ s i x K h e = e ∙ ap (λ (w : ℕ → ℕ). weightOf bs
 -- the loop that writes them
 pub record Copied (s ws₀ ws : List ℤ) (i : ℕ) : Type 0 where
   pub long : length ws ≡ length ws₀
-  pub entries : (j : ℕ) → j < i → getD ws j (pos 0) ≡ getD s (6 * column (length s) + j) (pos 0)
+  pub entries : (j : ℕ) → j < i → getD ws j (pos 0) ≡ getD s (pastDarts (length s) + j) (pos 0)
 
 pub copied-none : (s ws₀ : List ℤ) → Copied s ws₀ ws₀ 0
 copied-none s ws₀ = record { long = refl; entries = λ j h. absurd (omega arith) }
 
-pub copied-more : (s ws₀ ws ws′ : List ℤ) (i k : ℕ) (x : ℤ) → Copied s ws₀ ws i → i < length ws → k ≡ 6 * column (length s) + i →
+pub copied-more : (s ws₀ ws ws′ : List ℤ) (i k : ℕ) (x : ℤ) → Copied s ws₀ ws i → i < length ws → k ≡ pastDarts (length s) + i →
     x ≡ getD s k (pos 0) →
     ws′ ≡ set ws i x → Copied s ws₀ ws′ (i + 1)
 copied-more s ws₀ ws ws′ i k x C h e q r = rw r (record {

@@ -10,7 +10,7 @@ ghost use lib.IntN.{ℤ, natAbs};
 ghost use Rattle.definitions.specs.Repair.{limit};
 ghost use Rattle.definitions.specs.Backward.{backward};
 ghost use Rattle.definitions.specs.Refusals.{row9, row10, row11};
-ghost use Rattle.scratch_tables.specs.Tables.{column, tablesOf};
+ghost use Rattle.scratch_tables.specs.Tables.{pastDarts, tablesOf};
 ghost use Rattle.labels_tables.specs.LabelledTables.{Peeled};
 ghost use Rattle.maps_backward.specs.Slopes.{labelAcross, apexCorner, differenceOf, above, below, weightFrom, weightOf};
 ghost use Rattle.maps_backward.specs.Buffer.{Buffered};
@@ -125,14 +125,14 @@ fn weight_of(triangles: &[u16], scratch: &[i64], coordinates: &[i64], t: usize) 
 
 // 9 on the weights that the coordinates give. They are kept in scratch, past the words of the darts.
 pub fn weights_past_limit(triangles: &[u16], scratch: &mut [i64], coordinates: &[i64]) -> bool
-    requires { ⌜ (length (now triangles) < 32768) × (6 * column (length (now scratch)) + length (now triangles) / 3 ≤ length (now scratch))
+    requires { ⌜ (length (now triangles) < 32768) × (pastDarts (length (now scratch)) + length (now triangles) / 3 ≤ length (now scratch))
         × (row10 (now coordinates) ≡ false) × (row11 (now triangles) (now coordinates) ≡ false) ⌝ }
     ensures past { λ r. ⌜ ((n : ℕ) (ls : List ℕ) → Peeled n (now (triangles .entry)) ls (now (scratch .entry)) →
         r ≡ row9 (backward (now (triangles .entry)) ls (now (coordinates .entry)))) ⌝ }
     ensures kept { λ r. ⌜ (r ≡ false → (n : ℕ) (ls : List ℕ) → Peeled n (now (triangles .entry)) ls (now (scratch .entry)) →
         Buffered (backward (now (triangles .entry)) ls (now (coordinates .entry))) (now (scratch .exit))) ⌝ }
 {
-    let first = 6 * (scratch.len() / 10);
+    let first = scratch_tables::past_darts(scratch);
     let mut sum: usize = 0;
     let mut i = 0;
     while i + 1 < triangles.len() / 3 {
@@ -152,7 +152,7 @@ pub fn write_weights(scratch: &[i64], weights: &mut [i64])
     requires { ⌜ length (now weights) < 32768 ⌝ }
     ensures { λ r. ⌜ ((ws : List ℤ) → Buffered ws (now (scratch .entry)) → length (now (weights .entry)) ≡ length ws → now (weights .exit) ≡ ws) ⌝ }
 {
-    let first = 6 * (scratch.len() / 10);
+    let first = scratch_tables::past_darts(scratch);
     let mut i = 0;
     while i < weights.len() {
         int64::put(weights, i, int64::at(scratch, first + i));

@@ -52,7 +52,8 @@ module _ (n : ℕ) (ts : List ℕ) (ws bs scratch : List ℤ) where
 
   -- 1 and 2
   pub forward-early : (r : ℕ) → r ≡ firstRows n (forwardSlices n (length ts) (length scratch) (length ws) (length bs)) → (r ≡ 0 → ⊥)
-      → (refused (numbered r) ≡ forwardCall n ts ws bs scratch .answer) × ((bs ≡ forwardCall n ts ws bs scratch .coordinates) × (scratch ≡ forwardCall n ts ws bs scratch .scratch))
+      → (refused (numbered r) ≡ forwardCall n ts ws bs scratch .answer)
+      × ((bs ≡ forwardCall n ts ws bs scratch .coordinates) × (scratch ≡ forwardCall n ts ws bs scratch .scratch))
   forward-early r e f =
       let g = early-found n ts scratch slicesF r e ownF f in
       let q = givenF (some r) (g .0) in
@@ -111,7 +112,8 @@ module _ (n : ℕ) (ts : List ℕ) (bs ws scratch : List ℤ) where
 
   -- 1 and 2
   pub backward-early : (r : ℕ) → r ≡ firstRows n (forwardSlices n (length ts) (length scratch) (length ws) (length bs)) → (r ≡ 0 → ⊥)
-      → (refused (numbered r) ≡ backwardCall n ts bs ws scratch .answer) × ((ws ≡ backwardCall n ts bs ws scratch .weights) × (scratch ≡ backwardCall n ts bs ws scratch .scratch))
+      → (refused (numbered r) ≡ backwardCall n ts bs ws scratch .answer)
+      × ((ws ≡ backwardCall n ts bs ws scratch .weights) × (scratch ≡ backwardCall n ts bs ws scratch .scratch))
   backward-early r d f =
       let e = d ∙ back-rows n (length ts) (length scratch) (length ws) (length bs) in
       let g = early-found n ts scratch slicesB r e ownB f in

@@ -107,12 +107,12 @@ fn keep_and_store(
     requires { ⌜ v < 65536 ⌝ }
     ensures { λ r. ⌜ now (coordinates .exit) ≡ keptAndStored (now (triangles .entry)) (tablesOf (now (scratch .entry))) (now (weights .entry)) v (now (coordinates .entry)) ⌝ }
 {
-    let right = scratch_tables::get_count(scratch, v);
+    let right = labels_tables::right_dart(scratch, v);
     let r = scratch_tables::origin(triangles, right);
     let to = word_index(0, v);
     let from = word_index(1, r);
     copy(coordinates, to, from);
-    let left = scratch_tables::get_head(scratch, v);
+    let left = labels_tables::left_dart(scratch, v);
     store_fan(triangles, scratch, weights, coordinates, right, left);
 }
 
@@ -128,7 +128,7 @@ fn add_left_sum(
     ensures { λ r. ⌜ now (coordinates .exit) ≡ withLeftSum (now (triangles .entry)) (tablesOf (now (scratch .entry))) (now (weights .entry)) v (now (coordinates .entry)) ⌝ }
 {
     keep_and_store(triangles, scratch, weights, coordinates, v);
-    let left = scratch_tables::get_head(scratch, v);
+    let left = labels_tables::left_dart(scratch, v);
     let u = scratch_tables::origin(triangles, scratch_tables::prev_dart(left));
     let to = word_index(1, u);
     let from = word_index(1, v);
@@ -147,7 +147,7 @@ fn accumulate(
     ensures { λ r. ⌜ now (coordinates .exit) ≡ accumulate (now (triangles .entry)) (tablesOf (now (scratch .entry))) (now (weights .entry)) v (now (coordinates .entry)) ⌝ }
 {
     add_left_sum(triangles, scratch, weights, coordinates, v);
-    let right = scratch_tables::get_count(scratch, v);
+    let right = labels_tables::right_dart(scratch, v);
     let r = scratch_tables::origin(triangles, right);
     let to = word_index(1, r);
     let from = word_index(0, v);
@@ -169,7 +169,7 @@ fn accumulate_all(
 {
     let mut k = 0;
     while k + 2 < n {
-        let v = scratch_tables::get_mark(scratch, 2 * k + 1);
+        let v = labels_tables::removed_vertex(scratch, k);
         accumulate(triangles, scratch, weights, coordinates, v);
         k += 1;
     }
@@ -195,7 +195,7 @@ fn propagate_left(triangles: &[u16], scratch: &[i64], coordinates: &mut [i64], v
     requires { ⌜ (v < 65536) × Ceiling (now triangles) (tablesOf (now scratch)) v (now coordinates) ⌝ }
     ensures { λ r. ⌜ now (coordinates .exit) ≡ withLeftB1 (now (triangles .entry)) (tablesOf (now (scratch .entry))) v (now (coordinates .entry)) ⌝ }
 {
-    let left = scratch_tables::get_head(scratch, v);
+    let left = labels_tables::left_dart(scratch, v);
     let l = scratch_tables::tip(triangles, left);
     let own = word_index(1, v);
     let other = word_index(1, l);
@@ -208,7 +208,7 @@ fn propagate(triangles: &[u16], scratch: &[i64], coordinates: &mut [i64], v: usi
     ensures { λ r. ⌜ now (coordinates .exit) ≡ propagate (now (triangles .entry)) (tablesOf (now (scratch .entry))) v (now (coordinates .entry)) ⌝ }
 {
     propagate_left(triangles, scratch, coordinates, v);
-    let right = scratch_tables::get_count(scratch, v);
+    let right = labels_tables::right_dart(scratch, v);
     let r = scratch_tables::origin(triangles, right);
     let own = word_index(0, v);
     let other = word_index(0, r);
@@ -224,7 +224,7 @@ fn propagate_all(n: usize, triangles: &[u16], scratch: &[i64], coordinates: &mut
 {
     let mut k = 0;
     while k + 2 < n {
-        let v = scratch_tables::get_mark(scratch, 2 * (n - 3 - k) + 1);
+        let v = labels_tables::removed_vertex(scratch, n - 3 - k);
         propagate(triangles, scratch, coordinates, v);
         k += 1;
     }

@@ -91,7 +91,8 @@ small n ts h e d =
 pub has-room : (n : ℕ) (ts : List ℕ) (words : ℕ) → Lent n ts words → row3 ts n ≡ false → Room ts words
 has-room n ts words L e = let w = whole n ts L in room n (length ts / 3) words ts (small n ts (L .least) e) (w .0) (w .1) (L .room)
 
-pub can-fill : (n : ℕ) (ts : List ℕ) (s s₁ : List ℤ) (r : Bool) → Lent n ts (length s) → r ≡ row3 ts n → r ≡ false → length s₁ ≡ length s →
+pub can-fill : (n : ℕ) (ts : List ℕ) (s s₁ : List ℤ) (r : Bool) → Lent n ts (length s) → r ≡ row3 ts n → r ≡ false →
+    length s₁ ≡ length s →
     tablesOf s₁ ≡ withOp (tablesOf s .op) blank → Filling ts s₁
 can-fill n ts s s₁ r L e f l b =
     record {
@@ -105,7 +106,8 @@ can-fill n ts s s₁ r L e f l b =
 pub can-test : (n : ℕ) (ts : List ℕ) (words : ℕ) → Lent n ts words → (length ts % 3 ≡ 0) × (length ts < 2 ^ 62)
 can-test n ts words L = omega (arith, whole n ts L .0, L .triangles, L .most)
 
-pub has-marks : (n : ℕ) (ts : List ℕ) (words : ℕ) → Lent n ts words → {words′ : ℕ} → words′ ≡ words → Marks (length ts / 3) words′ × (0 < length ts / 3)
+pub has-marks : (n : ℕ) (ts : List ℕ) (words : ℕ) → Lent n ts words → {words′ : ℕ} → words′ ≡ words → Marks (length ts / 3) words′
+    × (0 < length ts / 3)
 has-marks n ts words L e =
     let w = whole n ts L in
     (record { at = λ t h. omega (arith, L .room, w .1); few = omega (arith, L .most, w .1) }, w .2)
@@ -114,7 +116,8 @@ has-marks n ts words L e =
 pub refuse3 : (n : ℕ) (ts : List ℕ) (r : Bool) → r ≡ row3 ts n → r ≡ true → firstRefusal (meshRows n ts) ≡ some 3
 refuse3 n ts r e f = mesh-3 n ts (sym e ∙ f)
 
-pub refuse4 : (n : ℕ) (ts : List ℕ) (q r : Bool) → q ≡ row3 ts n → q ≡ false → r ≡ row4 ts → r ≡ true → firstRefusal (meshRows n ts) ≡ some 4
+pub refuse4 : (n : ℕ) (ts : List ℕ) (q r : Bool) → q ≡ row3 ts n → q ≡ false → r ≡ row4 ts → r ≡ true →
+    firstRefusal (meshRows n ts) ≡ some 4
 refuse4 n ts q r d g e f = mesh-4 n ts (sym d ∙ g) (sym e ∙ f)
 
 -- ---- rows 5 and 6

@@ -1,4 +1,5 @@
--- Row 7 by going round: from a vertex's dart by rotations, and no rotation but the last of as many as the vertex has darts may come back to it. Assumes nothing.
+-- Row 7 by going round: from a vertex's dart by rotations, and no rotation but the last of as many as the vertex has darts may come back to it. Assumes
+-- nothing.
 use Prim.Native.Nat.{ℕ, zero, suc, _-_, _*_, _≤_, _<_}
 use mathlib.Core.Path.{_≡_, refl, sym, ap, _∙_}
 use mathlib.Core.Logic.{_≢_, inl, inr}

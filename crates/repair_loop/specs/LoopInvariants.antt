@@ -1,5 +1,5 @@
--- The iterations of repair's loop: what holds whenever the next bad triangle is found lets the raise be tried; a raise that is made brings it there again; and at
--- both ends the answer and the buffers are the definition's. Assumes nothing.
+-- The iterations of repair's loop: what holds whenever the next bad triangle is found lets the raise be tried; a raise that is made brings it there again;
+-- and at both ends the answer and the buffers are the definition's. Assumes nothing.
 use Prim.Native.Nat.{ℕ, _+_, _-_, _*_, _≤_, _<_}
 use mathlib.Core.Path.{_≡_, refl, sym, ap, _∙_, subst}
 use mathlib.Core.Logic.{inl, inr}

@@ -40,7 +40,8 @@ module _ (n : ℕ) (ts ls : List ℕ) (s : List ℤ) (Y : Ready n ts ls s) (t : 
             };
       }
 
-  pub timesMoved-moved : (x : ℤ) (bs bs′ : List ℤ) → WalkMoved n ts (tablesOf s) t x bs bs′ → Moved n (unit0 n ts ls t) (unit1 n ts ls t) x bs bs′
+  pub timesMoved-moved : (x : ℤ) (bs bs′ : List ℤ) → WalkMoved n ts (tablesOf s) t x bs bs′ →
+      Moved n (unit0 n ts ls t) (unit1 n ts ls t) x bs bs′
   timesMoved-moved x bs bs′ M =
       record {
         long = M .long;

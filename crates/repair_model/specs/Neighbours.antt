@@ -39,34 +39,35 @@ module _ {n : ℕ} (ts ls : List ℕ) (sph : Sphere n (length ts / 3) (org ts) (
     abbrev pub crossed-by : ℕ → ℕ
     crossed-by d = hits (opp ts) (walk ts ls (length ts / 3) u) d
 
-    module _ (w′ : ℕ → ℕ) (left right k i : ℕ) (L : RemovedVertex n (length ts / 3) (org ts) (opp ts) (label ls) (outer ts) w′ left right k i) where
-      left-below : left < 3 * (length ts / 3)
-      left-below = points-below sph R (named ts) (L .colour0)
+    module _ (w′ : ℕ → ℕ) (left right k i : ℕ) (L : RemovedVertex n (length ts / 3) (org ts) (opp ts) (label ls) (outer ts) w′ left right k i)
+      where
+        left-below : left < 3 * (length ts / 3)
+        left-below = points-below sph R (named ts) (L .colour0)
 
-      vertex-below : i < n
-      vertex-below = subst (λ (j : ℕ). j < n) (L .from) (sph .vertex left left-below)
+        vertex-below : i < n
+        vertex-below = subst (λ (j : ℕ). j < n) (L .from) (sph .vertex left left-below)
 
-      pub onward-left : unit1 n ts ls u i ≡ crossed-by left + unit1 n ts ls u (tip ts left)
-      unfolding tip
-      onward-left =
-          let W = walk ts ls (length ts / 3) in
-          let on = meets-onward sph R (named ts) W (walking ts ls sph whole R) (λ c j. path ts ls c n j) (pathing ts ls sph whole R) u z h 0
-          (omega arith) left (L .colour0) in
-          let a = crosses-once ts ls sph whole R u i z h vertex-below .1 in
-          let b = crosses-once ts ls sph whole R u (tip ts left) z h (sph .vertex (next left) (next-below (length ts / 3) left left-below)) .1 in
-          a ∙ rw (sym (L .from)) (on ∙ ap (λ (x : ℕ). crossed-by left + x) (sym b))
+        pub onward-left : unit1 n ts ls u i ≡ crossed-by left + unit1 n ts ls u (tip ts left)
+        unfolding tip
+        onward-left =
+            let W = walk ts ls (length ts / 3) in
+            let on = meets-onward sph R (named ts) W (walking ts ls sph whole R) (λ c j. path ts ls c n j) (pathing ts ls sph whole R) u z h 0
+            (omega arith) left (L .colour0) in
+            let a = crosses-once ts ls sph whole R u i z h vertex-below .1 in
+            let b = crosses-once ts ls sph whole R u (tip ts left) z h (sph .vertex (next left) (next-below (length ts / 3) left left-below)) .1 in
+            a ∙ rw (sym (L .from)) (on ∙ ap (λ (x : ℕ). crossed-by left + x) (sym b))
 
-      pub onward-right : unit0 n ts ls u i ≡ crossed-by right + unit0 n ts ls u (org ts right)
-      onward-right =
-          let W = walk ts ls (length ts / 3) in
-          let on = meets-onward sph R (named ts) W (walking ts ls sph whole R) (λ c j. path ts ls c n j) (pathing ts ls sph whole R) u z h 1 (omega arith)
-          (opp ts right) (L .colour1) in
-          let a = crosses-once ts ls sph whole R u i z h vertex-below .0 in
-          let b = crosses-once ts ls sph whole R u (org ts right) z h (sph .vertex right (L .below)) .0 in
-          let from : org ts (opp ts right) ≡ i = sph .reverses right (L .below) ∙ L .to in
-          let to : org ts (next (opp ts right)) ≡ org ts right = tip-opp sph right (L .below) in
-          let side : crossed-by (opp ts right) ≡ crossed-by right = hits-side sph R (named ts) (W u) right (L .below) in
-          a ∙ rw (from, to, side) at on ∙ ap (λ (x : ℕ). crossed-by right + x) (sym b)
+        pub onward-right : unit0 n ts ls u i ≡ crossed-by right + unit0 n ts ls u (org ts right)
+        onward-right =
+            let W = walk ts ls (length ts / 3) in
+            let on = meets-onward sph R (named ts) W (walking ts ls sph whole R) (λ c j. path ts ls c n j) (pathing ts ls sph whole R) u z h 1 (omega arith)
+            (opp ts right) (L .colour1) in
+            let a = crosses-once ts ls sph whole R u i z h vertex-below .0 in
+            let b = crosses-once ts ls sph whole R u (org ts right) z h (sph .vertex right (L .below)) .0 in
+            let from : org ts (opp ts right) ≡ i = sph .reverses right (L .below) ∙ L .to in
+            let to : org ts (next (opp ts right)) ≡ org ts right = tip-opp sph right (L .below) in
+            let side : crossed-by (opp ts right) ≡ crossed-by right = hits-side sph R (named ts) (W u) right (L .below) in
+            a ∙ rw (from, to, side) at on ∙ ap (λ (x : ℕ). crossed-by right + x) (sym b)
 
   -- ---- the corners of inner triangles at v0 and v1
 

@@ -10,8 +10,8 @@ use Rattle.scratch_tables.specs.Tables.{Tables}
 use Rattle.repair_model.specs.RemovalOrder.{removedAt}
 use Rattle.repair_model.specs.PackedWords.{pack, walkDart, endFlags, cornerWord, WalksPacked}
 
--- Of triangle t: where its colour-2 walk goes. A walk that passes there moves the subtree of one end of the side that it crosses: of the one whose dart to the
--- left that is, with 1; of the one whose dart from the right it is, with 2. `from` and `size` say where the subtrees stand in the two rows.
+-- Of triangle t: where its colour-2 walk goes. A walk that passes there moves the subtree of one end of the side that it crosses: of the one whose dart to
+-- the left that is, with 1; of the one whose dart from the right it is, with 2. `from` and `size` say where the subtrees stand in the two rows.
 unfoldable pub moveWord : List ℕ → Tables → (ℕ → ℕ) → (ℕ → ℕ) → (ℕ → ℕ) → (ℕ → ℕ) → ℕ → ℕ
 unfolding pack walkDart tri org tip endFlags
 moveWord ts T from0 size0 from1 size1 t =

@@ -135,7 +135,8 @@ module _ {n T : ℕ} {org opp label v : ℕ → ℕ} (sph : Sphere n T org opp) 
     removed-not0 j h e = let L = leaves-at j h in stays sph R named 0 (omega arith) (L .colour0) (L .from ∙ e)
 
     pub removed-not1 : (j : ℕ) → j < n - 2 → removedAt t j ≢ v 1
-    removed-not1 j h e = let L = leaves-at j h in stays sph R named 1 (omega arith) (L .colour1) (sph .reverses (t .count (removedAt t j)) (L .below) ∙ L .to
+    removed-not1 j h e = let L = leaves-at j h in stays sph R named 1 (omega arith) (L .colour1) (sph .reverses (t .count (removedAt t j)) (L .below)
+        ∙ L .to
         ∙ e)
 
     -- every other vertex leaves

@@ -167,11 +167,13 @@ module _ (n : ℕ) (ts ls : List ℕ) (T S : Tables) (size : length ts ≡ trian
   unfolding nextOn walkDart otherWalksWord
   next-is zero b =
       rw (ne-eqb t 0 inner)
-      (lowest (tri (oppositeIn (T .op) (prev g))) (tri (oppositeIn (T .op) g)) 0 0 (S .op (3 * t + 2)) (P .walksPacked .otherWalks t h k) (dart-low (T .op) (prev g))
+      (lowest (tri (oppositeIn (T .op) (prev g))) (tri (oppositeIn (T .op) g)) 0 0 (S .op (3 * t + 2)) (P .walksPacked .otherWalks t h k)
+      (dart-low (T .op) (prev g))
       ∙ ap tri (across-at (prev g) (below .2)) ∙ sym (beyond-are .0))
   next-is (suc zero) b =
       rw (ne-eqb t 0 inner)
-      (field1-is (tri (oppositeIn (T .op) (prev g))) (tri (oppositeIn (T .op) g)) 0 0 (S .op (3 * t + 2)) (P .walksPacked .otherWalks t h k) (dart-low (T .op) (prev g))
+      (field1-is (tri (oppositeIn (T .op) (prev g))) (tri (oppositeIn (T .op) g)) 0 0 (S .op (3 * t + 2)) (P .walksPacked .otherWalks t h k)
+      (dart-low (T .op) (prev g))
       (dart-low (T .op) g)
       (omega arith)
       ∙ ap tri (across-at g (below .0)) ∙ sym (beyond-are .1))

@@ -24,7 +24,8 @@ use Rattle.theory_crossings.specs.Tests.{named}
 use Rattle.theory_subtrees.specs.Subtree.{times, Subtree}
 use Rattle.scratch_tables.specs.Tables.{Tables}
 use Rattle.labels_tables.specs.LabelledTables.{oppositeIn, labelIn, Stored}
-use Rattle.repair_model.specs.RemovalOrder.{removedAt, From, first, last, removed, RemovedVertex, leaves-at, removed-below, removed-not0, removed-not1}
+use Rattle.repair_model.specs.RemovalOrder.{removedAt, From, first, last, removed, RemovedVertex, leaves-at, removed-below, removed-not0}
+use Rattle.repair_model.specs.RemovalOrder.{removed-not1}
 use Rattle.repair_model.specs.RemovalOrder.{every-removed, removed-once}
 use Rattle.repair_model.specs.Corners.{apex-is, apex-below, into-below}
 use Rattle.repair_model.specs.PackedWords.{pack, field0, field1, field2, field3, field0-is, field1-is, field2-is, field3-is, apexCorner, walkDart}
@@ -54,7 +55,8 @@ module _ (f : ℕ) (row op : ℕ → ℕ) where
   timesMoved-home zero i = refl
   timesMoved-home (suc k) i = refl
 
-  pub timesMoved-on : (k t i : ℕ) → t ≢ 0 → timesMoved f row op (suc k) t i ≡ moved f row (op (3 * t)) i + timesMoved f row op k (field0 (op (3 * t))) i
+  pub timesMoved-on : (k t i : ℕ) → t ≢ 0 → timesMoved f row op (suc k) t i
+      ≡ moved f row (op (3 * t)) i + timesMoved f row op k (field0 (op (3 * t))) i
   unfolding timesMoved moved
   timesMoved-on k t i d = rw (ne-eqb t 0 d, timesMoved)
 
@@ -218,7 +220,8 @@ module _ {n : ℕ} (ts ls : List ℕ) (sph : Sphere n (length ts / 3) (org ts) (
         (up-other : (j : ℕ) → j < n - 2 → up j ≢ other)
         (end0 : outer ts 0 ≢ other → unit (outer ts 0) ≡ 0) (end1 : outer ts 1 ≢ other → unit (outer ts 1) ≡ 0)
         (below0 : outer ts 0 < n) (below1 : outer ts 1 < n) where
-      at-end : (q i : ℕ) → From n (outer ts) name q i → ((j : ℕ) → q ≤ j → j < n - 2 → name j ≡ i → timesMoved f row op k u i ≡ unit i) →
+      at-end : (q i : ℕ) → From n (outer ts) name q i → ((j : ℕ) → q ≤ j → j < n - 2 → name j ≡ i → timesMoved f row op k u i ≡ unit i)
+          →
           i ≢ other →
           timesMoved f row op k u i ≡ unit i
       at-end q i (first e) r d = rw e (outside k u (outer ts 0) l below0 (C .not-first) ∙ sym (end0 (λ c. d (e ∙ c))))

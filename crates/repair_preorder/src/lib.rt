@@ -7,9 +7,9 @@ use repair_words::field1;
 use repair_words::field2;
 use repair_words::field3;
 use repair_words::pack;
+use repair_words::walk_at;
 use scratch_tables::get_head;
 use scratch_tables::get_mark;
-use scratch_tables::get_op;
 use scratch_tables::origin;
 use scratch_tables::set_count;
 use scratch_tables::set_head;
@@ -127,7 +127,7 @@ fn store_range(s: &mut [i64], colour: usize, t: usize)
     requires { ⌜ (0 < t) × (t < 65536) × (5 * t + 10 ≤ length (now s)) × (colour < 2) ⌝ }
     ensures { λ r. ⌜ tablesOf (now (s .exit)) ≡ storeRange colour t (tablesOf (now (s .entry))) ⌝ }
 {
-    let w = get_op(s, 3 * t);
+    let w = walk_at(s, t);
     let r = with_range(s, colour, w);
     set_op(s, 3 * t, r);
 }

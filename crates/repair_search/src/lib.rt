@@ -1,9 +1,11 @@
 // The next bad triangle, looked for in the order of the numbers. After a raise, of those passed only the ones on the raised triangle's three walks are looked at
 // again.
+use repair_words::corners_at;
 use repair_words::field0;
 use repair_words::field1;
 use repair_words::field2;
-use scratch_tables::get_op;
+use repair_words::other_walks_at;
+use repair_words::walk_at;
 ghost use mathlib.Core.Path.{_≡_};
 ghost use mathlib.Core.Bool.{false};
 ghost use Prim.Native.Nat.{_+_, _*_, _<_, _≤_};
@@ -19,7 +21,7 @@ fn is_bad(s: &[i64], coordinates: &[i64], t: usize) -> bool
     requires { ⌜ (t < 65536) × (row10 (now coordinates) ≡ false) ⌝ }
     ensures { λ x. ⌜ x ≡ badAt (tablesOf (now (s .entry))) (now (coordinates .entry)) t ⌝ }
 {
-    let w = get_op(s, 3 * t + 1);
+    let w = corners_at(s, t);
     repair_area::bad_at(coordinates, field0(w), field1(w), field2(w))
 }
 
@@ -29,7 +31,7 @@ pub fn raise_at(s: &[i64], coordinates: &[i64], t: usize) -> i64
     ensures is { λ x. ⌜ x ≡ raiseAt (tablesOf (now (s .entry))) (now (coordinates .entry)) t ⌝ }
     ensures small { λ x. ⌜ natAbs x ≤ 4 * limit + 1 ⌝ }
 {
-    let w = get_op(s, 3 * t + 1);
+    let w = corners_at(s, t);
     repair_area::raise_of(coordinates, field0(w), field1(w), field2(w))
 }
 
@@ -58,9 +60,9 @@ fn next_on_walk(s: &[i64], c: usize, t: usize) -> usize
         return 0;
     }
     if c == 2 {
-        return field0(get_op(s, 3 * t));
+        return field0(walk_at(s, t));
     }
-    let w = get_op(s, 3 * t + 2);
+    let w = other_walks_at(s, t);
     if c == 0 {
         return field0(w);
     }

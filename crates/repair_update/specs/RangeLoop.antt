@@ -10,7 +10,7 @@ use lib.IntN.{ℤ, pos, natAbs, _+ℤ_}
 use Rattle.definitions.specs.Repair.{limit}
 use Rattle.theory_realizer.specs.Units.{bit}
 use Rattle.theory_subtrees.specs.Subtree.{times}
-use Rattle.scratch_tables.specs.Tables.{wordAt, column, tablesOf, count-in, mark-in, mark-even}
+use Rattle.scratch_tables.specs.Tables.{wordAt, column, tablesOf, count-in, mark-in, mark-even, countStart, markStart}
 use Rattle.repair_update.specs.Increase.{More, more-none, more-then, more-same, single, more-set, Small, small-later, small-set}
 
 -- x more in coordinate e of each vertex in the k entries of a row from place a on
@@ -113,23 +113,23 @@ module _ {s bs₀ : List ℤ} {a end e : ℕ} {x : ℤ} {bs : List ℤ} {p : ℕ
 -- ---- the two rows, where they stand in scratch
 
 module _ (s : List ℤ) where
-  pub count-row : (k a i : ℕ) → a + k ≤ column (length s) → times (wordAt s) (7 * column (length s) + a) k i ≡ times (tablesOf s .count) a k i
+  pub count-row : (k a i : ℕ) → a + k ≤ column (length s) → times (wordAt s) (countStart (length s) + a) k i ≡ times (tablesOf s .count) a k i
   unfolding times
   count-row zero a i h = refl
   count-row (suc k) a i h =
-      let f : suc (7 * column (length s) + a) ≡ 7 * column (length s) + suc a = omega arith in
-      rw (count-in s a (omega arith), f) (ap (λ (m : ℕ). bit (eqb (wordAt s (7 * column (length s) + a)) i) + m) (count-row k (suc a) i (omega arith)))
+      let f : suc (countStart (length s) + a) ≡ countStart (length s) + suc a = omega arith in
+      rw (count-in s a (omega arith), f) (ap (λ (m : ℕ). bit (eqb (wordAt s (countStart (length s) + a)) i) + m) (count-row k (suc a) i (omega arith)))
 
-  pub mark-cell : (a : ℕ) → a < column (length s) → tablesOf s .mark (2 * a) ≡ wordAt s (8 * column (length s) + a)
+  pub mark-cell : (a : ℕ) → a < column (length s) → tablesOf s .mark (2 * a) ≡ wordAt s (markStart (length s) + a)
   mark-cell a h =
       let e : 2 * a / 2 ≡ a = omega arith in
       mark-in s (2 * a) (omega arith) ∙ ap (wordAt s) (mark-even (column (length s)) (2 * a) (omega arith)
-      ∙ ap (λ (m : ℕ). 8 * column (length s) + m) e)
+      ∙ ap (λ (m : ℕ). markStart (length s) + m) e)
 
-  pub mark-row : (k a i : ℕ) → a + k ≤ column (length s) → times (wordAt s) (8 * column (length s) + a) k i
+  pub mark-row : (k a i : ℕ) → a + k ≤ column (length s) → times (wordAt s) (markStart (length s) + a) k i
       ≡ times (λ j. tablesOf s .mark (2 * j)) a k i
   unfolding times
   mark-row zero a i h = refl
   mark-row (suc k) a i h =
-      let f : suc (8 * column (length s) + a) ≡ 8 * column (length s) + suc a = omega arith in
-      rw (mark-cell a (omega arith), f) (ap (λ (m : ℕ). bit (eqb (wordAt s (8 * column (length s) + a)) i) + m) (mark-row k (suc a) i (omega arith)))
+      let f : suc (markStart (length s) + a) ≡ markStart (length s) + suc a = omega arith in
+      rw (mark-cell a (omega arith), f) (ap (λ (m : ℕ). bit (eqb (wordAt s (markStart (length s) + a)) i) + m) (mark-row k (suc a) i (omega arith)))

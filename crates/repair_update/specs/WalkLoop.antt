@@ -15,7 +15,7 @@ use Rattle.definitions.specs.Backward.{coordinate}
 use Rattle.definitions.specs.Repair.{limit}
 use Rattle.definitions.specs.Refusals.{row10}
 use Rattle.theory_realizer.specs.Units.{bit}
-use Rattle.scratch_tables.specs.Tables.{Tables, wordAt, column, tablesOf, count-in}
+use Rattle.scratch_tables.specs.Tables.{Tables, wordAt, tablesOf, count-in, countStart, markStart}
 use Rattle.maps_limits.specs.Limits.{range}
 use Rattle.repair_model.specs.PackedWords.{field0, field1, field2, field3}
 use Rattle.repair_model.specs.Raise.{Moved}
@@ -83,13 +83,13 @@ module _ (S : Tables) (w : ℕ) where
 
 -- where in scratch the row of a flag begins: `count` for 1, the even marks for 2
 unfoldable pub rowAt : ℕ → ℕ → ℕ
-rowAt words f = cond (eqb f 1) (7 * column words) (8 * column words)
+rowAt words f = cond (eqb f 1) (countStart words) (markStart words)
 
-pub row-left : (words f : ℕ) → f ≡ 1 → 7 * column words ≡ rowAt words f
+pub row-left : (words f : ℕ) → f ≡ 1 → countStart words ≡ rowAt words f
 unfolding rowAt
 row-left words f e = rw (eq-eqb f 1 e)
 
-pub row-right : (words f : ℕ) → f ≢ 1 → 8 * column words ≡ rowAt words f
+pub row-right : (words f : ℕ) → f ≢ 1 → markStart words ≡ rowAt words f
 unfolding rowAt
 row-right words f d = rw (ne-eqb f 1 d)
 
@@ -112,7 +112,7 @@ pub record Followed (s : List ℤ) (w : ℕ) (x : ℤ) (bs bs′ : List ℤ) : T
   pub small : (k : ℕ) → Small k bs → Small (k + 4096) bs′
 
 module _ (s bs : List ℤ) (w : ℕ) (x : ℤ) (M : Movable s bs w x) where
-  left-rowable : field3 w ≡ 1 → (a end : ℕ) → a ≡ 7 * column (length s) + field1 w → end ≡ a + field2 w → Rowable s bs a end 1 x
+  left-rowable : field3 w ≡ 1 → (a end : ℕ) → a ≡ countStart (length s) + field1 w → end ≡ a + field2 w → Rowable s bs a end 1 x
   left-rowable e a end ea ee =
       let f = M .left e in
       record {
@@ -121,8 +121,8 @@ module _ (s bs : List ℤ) (w : ℕ) (x : ℤ) (M : Movable s bs w x) where
         low = omega arith;
         short = omega (arith, M .long, M .most);
         vertices = λ p h l.
-            let j = p - 7 * column (length s) in
-            let q : 7 * column (length s) + j ≡ p = omega (arith, ea, h) in
+            let j = p - countStart (length s) in
+            let q : countStart (length s) + j ≡ p = omega (arith, ea, h) in
             let c = count-in s j (omega (arith, ea, ee, l, f .0, M .room)) in
             let b = f .1 j (omega (arith, ea, h)) (omega (arith, ea, ee, h, l)) in
             omega (arith, c, b, ap (wordAt s) q, M .long);
@@ -132,7 +132,7 @@ module _ (s bs : List ℤ) (w : ℕ) (x : ℤ) (M : Movable s bs w x) where
         few = omega (arith, M .few, M .most, f .0, ee);
       }
 
-  right-rowable : field3 w ≡ 2 → (a end : ℕ) → a ≡ 8 * column (length s) + field1 w → end ≡ a + field2 w → Rowable s bs a end 0 x
+  right-rowable : field3 w ≡ 2 → (a end : ℕ) → a ≡ markStart (length s) + field1 w → end ≡ a + field2 w → Rowable s bs a end 0 x
   right-rowable e a end ea ee =
       let f = M .right e in
       record {
@@ -141,8 +141,8 @@ module _ (s bs : List ℤ) (w : ℕ) (x : ℤ) (M : Movable s bs w x) where
         low = omega arith;
         short = omega (arith, M .long, M .most);
         vertices = λ p h l.
-            let j = p - 8 * column (length s) in
-            let q : 8 * column (length s) + j ≡ p = omega (arith, ea, h) in
+            let j = p - markStart (length s) in
+            let q : markStart (length s) + j ≡ p = omega (arith, ea, h) in
             let c = mark-cell s j (omega (arith, ea, ee, l, f .0, M .room)) in
             let b = f .1 j (omega (arith, ea, h)) (omega (arith, ea, ee, h, l)) in
             omega (arith, c, b, ap (wordAt s) q, M .long);
@@ -153,7 +153,7 @@ module _ (s bs : List ℤ) (w : ℕ) (x : ℤ) (M : Movable s bs w x) where
       }
 
   module _ (bs′ : List ℤ) (a end : ℕ) where
-    left-followed : field3 w ≡ 1 → a ≡ 7 * column (length s) + field1 w → end ≡ a + field2 w → More (along (wordAt s) a (end - a) 1) x bs bs′
+    left-followed : field3 w ≡ 1 → a ≡ countStart (length s) + field1 w → end ≡ a + field2 w → More (along (wordAt s) a (end - a) 1) x bs bs′
         →
         ((k : ℕ) → Small k bs → Small (k + (end - a)) bs′) → Followed s w x bs bs′
     left-followed e ea ee more small =
@@ -169,7 +169,7 @@ module _ (s bs : List ℤ) (w : ℕ) (x : ℤ) (M : Movable s bs w x) where
           small = λ k l. small-later (omega (arith, f .0, M .most, ee)) (small k l);
         }
 
-    right-followed : field3 w ≡ 2 → a ≡ 8 * column (length s) + field1 w → end ≡ a + field2 w → More (along (wordAt s) a (end - a) 0) x bs bs′
+    right-followed : field3 w ≡ 2 → a ≡ markStart (length s) + field1 w → end ≡ a + field2 w → More (along (wordAt s) a (end - a) 0) x bs bs′
         →
         ((k : ℕ) → Small k bs → Small (k + (end - a)) bs′) → Followed s w x bs bs′
     right-followed e ea ee more small =

@@ -4,7 +4,7 @@ use repair_words::field0;
 use repair_words::field1;
 use repair_words::field2;
 use repair_words::field3;
-use scratch_tables::get_op;
+use repair_words::walk_at;
 use scratch_tables::origin;
 ghost use mathlib.Core.Path.{_≡_};
 ghost use Prim.Native.Nat.{ℕ, _+_, _-_, _*_, _<_, _≤_, _^_};
@@ -15,14 +15,6 @@ ghost use Rattle.repair_model.specs.PackedWords.{field0};
 ghost use Rattle.repair_update.specs.Increase.{More, Small};
 ghost use Rattle.repair_update.specs.RangeLoop.{along, Rowable};
 ghost use Rattle.repair_update.specs.WalkLoop.{rowAt, Movable, Followed, Walkable, Walked, UpdatePre, WalkMoved};
-
-// the entry at place p
-fn entry_at(s: &[i64], p: usize) -> usize
-    requires { ⌜ p < length (now s) ⌝ }
-    ensures { λ r. ⌜ r ≡ wordAt (now (s .entry)) p ⌝ }
-{
-    if s[p] < 0 { 0 } else { s[p] as usize }
-}
 
 // x more at place i
 pub fn add_at(numbers: &mut [i64], i: usize, x: i64)
@@ -40,7 +32,7 @@ fn add_to_range(s: &[i64], coordinates: &mut [i64], a: usize, end: usize, c: usi
 {
     let mut p = a;
     while p < end {
-        let v = entry_at(s, p);
+        let v = scratch_tables::load(s, p);
         add_at(coordinates, 3 * v + c, x);
         p += 1;
     }
@@ -51,8 +43,11 @@ fn preorder_start(s: &[i64], f: usize) -> usize
     ensures is { λ r. ⌜ r ≡ rowAt (length (now (s .entry))) f ⌝ }
     ensures small { λ r. ⌜ r ≤ length (now (s .entry)) ⌝ }
 {
-    let column = s.len() / 10;
-    if f == 1 { 7 * column } else { 8 * column }
+    if f == 1 {
+        scratch_tables::count_start(s)
+    } else {
+        scratch_tables::mark_start(s)
+    }
 }
 
 // The subtree that the word w names, if it names one. Both colours go one way, so that nothing is guessed by the flag.
@@ -77,7 +72,7 @@ fn step(s: &[i64], coordinates: &mut [i64], t: usize, x: i64) -> usize
     ensures next { λ r. ⌜ r ≡ field0 (tablesOf (now (s .entry)) .op (3 * t)) ⌝ }
     ensures moved { λ r. ⌜ Followed (now (s .entry)) (tablesOf (now (s .entry)) .op (3 * t)) x (now (coordinates .entry)) (now (coordinates .exit)) ⌝ }
 {
-    let w = get_op(s, 3 * t);
+    let w = walk_at(s, t);
     add_to_subtree(s, coordinates, w, x);
     field0(w)
 }

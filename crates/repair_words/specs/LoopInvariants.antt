@@ -111,7 +111,8 @@ pub record PackPre (n : ℕ) (s : List ℤ) : Type 0 where
   pub low : (k : ℕ) → k < n - 2 → tablesOf s .mark (2 * k + 1) < 65536
 
 -- of other tables as long, with the same vertices that left
-pub packable-again : (n : ℕ) (s s′ : List ℤ) → PackPre n s → length s′ ≡ length s → tablesOf s′ .mark ≡ tablesOf s .mark → PackPre n s′
+pub packable-again : (n : ℕ) (s s′ : List ℤ) → PackPre n s → length s′ ≡ length s → tablesOf s′ .mark ≡ tablesOf s .mark →
+    PackPre n s′
 packable-again n s s′ L e m =
     record {
       some = L .some;
@@ -124,7 +125,8 @@ withRim-mark : (ts : List ℕ) (T : Tables) → withRim ts T .mark ≡ T .mark
 unfolding withRim setHead setCount
 withRim-mark ts T = refl
 
-pub packable-withRim : (n : ℕ) (ts : List ℕ) (s s′ : List ℤ) → PackPre n s → length s′ ≡ length s → tablesOf s′ ≡ withRim ts (tablesOf s)
+pub packable-withRim : (n : ℕ) (ts : List ℕ) (s s′ : List ℤ) → PackPre n s → length s′ ≡ length s →
+    tablesOf s′ ≡ withRim ts (tablesOf s)
     → PackPre n s′
 packable-withRim n ts s s′ L e v = packable-again n s s′ L e (ap (λ (T : Tables). T .mark) v ∙ withRim-mark ts (tablesOf s))
 

@@ -1,8 +1,7 @@
 // The words that a raise reads, packed into scratch over the tables of the labels stage: one for each inner triangle's colour-2 walk, one for its corners, one
 // for its two other walks, and one for each vertex that left. Four numbers stand in a word, 16 bits for each of the first three.
-use scratch_tables::get_count;
-use scratch_tables::get_head;
-use scratch_tables::get_mark;
+use labels_tables::left_dart;
+use labels_tables::right_dart;
 use scratch_tables::next_dart;
 use scratch_tables::origin;
 use scratch_tables::prev_dart;
@@ -56,6 +55,31 @@ pub fn pack(a: usize, b: usize, c: usize, d: usize) -> usize
     a + 65536 * b + 4_294_967_296 * c + 281_474_976_710_656 * d
 }
 
+// the words of triangle t: where its colour-2 walk goes, its corners, and where its other walks go
+pub fn walk_at(s: &[i64], t: usize) -> usize
+    requires { ⌜ t < 65536 ⌝ }
+    ensures is { λ r. ⌜ r ≡ tablesOf (now (s .entry)) .op (3 * t) ⌝ }
+    ensures small { λ r. ⌜ r < 2 ^ 63 ⌝ }
+{
+    scratch_tables::get_op(s, 3 * t)
+}
+
+pub fn corners_at(s: &[i64], t: usize) -> usize
+    requires { ⌜ t < 65536 ⌝ }
+    ensures is { λ r. ⌜ r ≡ tablesOf (now (s .entry)) .op (3 * t + 1) ⌝ }
+    ensures small { λ r. ⌜ r < 2 ^ 63 ⌝ }
+{
+    scratch_tables::get_op(s, 3 * t + 1)
+}
+
+pub fn other_walks_at(s: &[i64], t: usize) -> usize
+    requires { ⌜ t < 65536 ⌝ }
+    ensures is { λ r. ⌜ r ≡ tablesOf (now (s .entry)) .op (3 * t + 2) ⌝ }
+    ensures small { λ r. ⌜ r < 2 ^ 63 ⌝ }
+{
+    scratch_tables::get_op(s, 3 * t + 2)
+}
+
 // the corner of triangle t with label 2
 fn apex_corner(s: &[i64], t: usize) -> usize
     requires { ⌜ t < 65536 ⌝ }
@@ -88,8 +112,8 @@ fn end_flags(s: &[i64], o: usize, a: usize, b: usize) -> usize
     ensures is { λ r. ⌜ r ≡ endFlags (tablesOf (now (s .entry))) o a b ⌝ }
     ensures small { λ r. ⌜ r < 4 ⌝ }
 {
-    let e = get_head(s, a);
-    let f = get_count(s, b);
+    let e = left_dart(s, a);
+    let f = right_dart(s, b);
     if e == o {
         if f == o {
             return 3;
@@ -142,9 +166,9 @@ fn removed_word(triangles: &[u16], s: &[i64], k: usize) -> usize
     ensures is { λ r. ⌜ r ≡ removedWord (now (triangles .entry)) (tablesOf (now (s .entry))) k ⌝ }
     ensures small { λ r. ⌜ r < 2 ^ 63 ⌝ }
 {
-    let v = get_mark(s, 2 * k + 1);
-    let left = tip(triangles, get_head(s, v));
-    let right = origin(triangles, get_count(s, v));
+    let v = labels_tables::removed_vertex(s, k);
+    let left = tip(triangles, left_dart(s, v));
+    let right = origin(triangles, right_dart(s, v));
     pack(v, left, right, 0)
 }
 

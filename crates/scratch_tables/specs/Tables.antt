@@ -49,6 +49,16 @@ wordAt s i = toNatural (getD s i (pos 0))
 abbrev pub column : ℕ → ℕ
 column words = words / 10
 
+-- where the words past those of the darts begin; those of `count`; and those of the even marks
+abbrev pub pastDarts : ℕ → ℕ
+pastDarts words = 6 * column words
+
+abbrev pub countStart : ℕ → ℕ
+countStart words = 7 * column words
+
+abbrev pub markStart : ℕ → ℕ
+markStart words = 8 * column words
+
 -- the entries that there are
 abbrev pub dartIn : ℕ → ℕ → Type 0
 dartIn words d = d < 6 * column words

@@ -2,11 +2,11 @@
 // Reading is total: an index past its table, and a word below zero, read as 0.
 ghost use mathlib.Core.Path.{_≡_};
 ghost use mathlib.Core.List.{map};
-ghost use Prim.Native.Nat.{_*_, _<_, _^_};
+ghost use Prim.Native.Nat.{_*_, _<_, _≤_, _^_};
 ghost use lib.ListN.{length, set};
 ghost use lib.IntN.{pos};
 ghost use Rattle.definitions.specs.Mesh.{org, tip, next, prev};
-ghost use Rattle.scratch_tables.specs.Tables.{toNatural, wordAt, dartIn, vertexIn, markIn, markAt, tablesOf, setOp, setHead, setCount, setMark, withOp, blank, Cleared};
+ghost use Rattle.scratch_tables.specs.Tables.{pastDarts, countStart, markStart, toNatural, wordAt, dartIn, vertexIn, markIn, markAt, tablesOf, setOp, setHead, setCount, setMark, withOp, blank, Cleared};
 
 fn widen(x: u16) -> usize
     ensures { λ r. ⌜ (r ≡ x) × (r < 65536) ⌝ }
@@ -50,14 +50,14 @@ pub fn tip(triangles: &[u16], d: usize) -> usize
     origin(triangles, next_dart(d))
 }
 
-// a word of scratch
+// a word of scratch as a natural number
 fn to_usize(x: i64) -> usize
     ensures { λ r. ⌜ (r ≡ toNatural x) × (r < 2 ^ 63) ⌝ }
 {
     if x < 0 { 0 } else { x as usize }
 }
 
-fn load(s: &[i64], i: usize) -> usize
+pub fn load(s: &[i64], i: usize) -> usize
     requires { ⌜ i < length (now s) ⌝ }
     ensures { λ r. ⌜ (r ≡ wordAt (now (s .entry)) i) × (r < 2 ^ 63) ⌝ }
 {
@@ -149,6 +149,28 @@ pub fn set_mark(s: &mut [i64], t: usize, x: usize)
 {
     let c = s.len() / 10;
     store(s, mark_index(c, t), x);
+}
+
+// where the words past those of the darts begin; those of `count`; and those of the even marks
+pub fn past_darts(s: &[i64]) -> usize
+    ensures is { λ r. ⌜ r ≡ pastDarts (length (now (s .entry))) ⌝ }
+    ensures small { λ r. ⌜ r ≤ length (now (s .entry)) ⌝ }
+{
+    6 * (s.len() / 10)
+}
+
+pub fn count_start(s: &[i64]) -> usize
+    ensures is { λ r. ⌜ r ≡ countStart (length (now (s .entry))) ⌝ }
+    ensures small { λ r. ⌜ r ≤ length (now (s .entry)) ⌝ }
+{
+    7 * (s.len() / 10)
+}
+
+pub fn mark_start(s: &[i64]) -> usize
+    ensures is { λ r. ⌜ r ≡ markStart (length (now (s .entry))) ⌝ }
+    ensures small { λ r. ⌜ r ≤ length (now (s .entry)) ⌝ }
+{
+    8 * (s.len() / 10)
 }
 
 // zeros in every word from k on

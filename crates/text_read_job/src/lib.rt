@@ -3,7 +3,8 @@ ghost use Prim.Native.Nat.{_+_, _*_, _-_, _<_, _≤_};
 ghost use mathlib.Core.Path.{_≡_};
 ghost use mathlib.Core.List.{_∷_, [], _++_};
 ghost use lib.ListN.{length, take, drop};
-ghost use Rattle.definitions.specs.Job.{triangleLine, weightLine, readLines, readJob};
+ghost use Rattle.definitions.specs.Mesh.{trianglesLength, weightsLength};
+ghost use Rattle.definitions.specs.Job.{triangleLine, weightLine, readLines, readJob, mostTextVertices};
 ghost use Rattle.text_model.specs.Reading.{flat};
 ghost use Rattle.text_read_job.specs.Answer.{linesOf, answerOf, Sized};
 ghost use Rattle.text_read_job.specs.Parts.{Ends, Comes};
@@ -16,6 +17,11 @@ pub enum Lines {
     Next(usize),
     BrokenAt(usize),
 }
+
+// the most bytes of a text, and the most vertices of a mesh in a text
+pub const MOST_BYTES: usize = 16_384;
+
+pub const MOST_VERTICES: usize = 256;
 
 // What a text comes to: a job on n vertices, a text that is too long, an n that is refused, or a line that breaks the layout.
 pub enum Reading {
@@ -88,7 +94,7 @@ fn read_weights(text: &[u8], start: usize, count: usize, first: usize, weights: 
 
 // The weights' lines, and that nothing follows them.
 fn read_end(text: &[u8], at: usize, n: usize, weights: &mut [i64]) -> Reading
-    requires { ⌜ (3 ≤ n) × (n ≤ 256) × (507 ≤ length (now weights)) ⌝ }
+    requires { ⌜ (3 ≤ n) × (n ≤ mostTextVertices) × (weightsLength mostTextVertices ≤ length (now weights)) ⌝ }
     ensures { λ r. ⌜ Ends (now (text .entry)) at n (now (weights .exit)) r ⌝ }
 {
     match read_weights(text, at, 2 * n - 5, 2 * n - 2, &mut *weights) {
@@ -110,7 +116,7 @@ fn read_body(
     triangles: &mut [u16],
     weights: &mut [i64],
 ) -> Reading
-    requires { ⌜ (3 ≤ n) × (n ≤ 256) × (1524 ≤ length (now triangles)) × (507 ≤ length (now weights)) ⌝ }
+    requires { ⌜ (3 ≤ n) × (n ≤ mostTextVertices) × (trianglesLength mostTextVertices ≤ length (now triangles)) × (weightsLength mostTextVertices ≤ length (now weights)) ⌝ }
     ensures { λ r. ⌜ Comes (now (text .entry)) start n (now (triangles .exit)) (now (weights .exit)) r ⌝ }
 {
     match read_triangles(text, start, 2 * n - 4, &mut *triangles) {
@@ -121,11 +127,11 @@ fn read_body(
 
 // The whole text. Where it is a job, the slices begin with its triangles and its weights.
 pub fn read_job(text: &[u8], triangles: &mut [u16], weights: &mut [i64]) -> Reading
-    requires { ⌜ (1524 ≤ length (now triangles)) × (507 ≤ length (now weights)) ⌝ }
+    requires { ⌜ (trianglesLength mostTextVertices ≤ length (now triangles)) × (weightsLength mostTextVertices ≤ length (now weights)) ⌝ }
     ensures { λ r. ⌜ answerOf r (now (triangles .exit)) (now (weights .exit)) ≡ readJob (now (text .entry)) ⌝ }
     ensures { λ r. ⌜ Sized r ⌝ }
 {
-    if 16384 < text.len() {
+    if MOST_BYTES < text.len() {
         return Reading::TooLong;
     }
     let Vertex::Corner(v) = text_parse::head_at(text_reader::rest_from(text, 0)) else {
@@ -135,7 +141,7 @@ pub fn read_job(text: &[u8], triangles: &mut [u16], weights: &mut [i64]) -> Read
     if n < 3 {
         return Reading::Size;
     }
-    if 256 < n {
+    if MOST_VERTICES < n {
         return Reading::Size;
     }
     let start = text_reader::after_line(text, 0);

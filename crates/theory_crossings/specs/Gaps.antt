@@ -135,7 +135,8 @@ module _ {n T : ℕ} {org opp : ℕ → ℕ} (sph : Sphere n T org opp) (x w b0 
       every-append (Corner T org opp x w b0 b1) gs (fans T org opp tr) (step-fan e e′ gs h f (eq .0) (eq .1) (eq .2) k .corners) (all-corners tr (eq .3))
 
   -- INSIDE: every vertex that leaves
-  pub all-inside : {C : List ℕ} (tr : Trace T org opp C) → Solves T org opp x w b0 b1 tr → Every (λ v. b0 v + b1 v ≤ x 2) (removedVertices T org opp tr)
+  pub all-inside : {C : List ℕ} (tr : Trace T org opp C) → Solves T org opp x w b0 b1 tr →
+      Every (λ v. b0 v + b1 v ≤ x 2) (removedVertices T org opp tr)
   unfolding removedVertices
   all-inside done eq = tt
   all-inside (step e e′ gs h o f s tr) eq =

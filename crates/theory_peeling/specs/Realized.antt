@@ -19,7 +19,8 @@ use Rattle.theory_sphere.specs.Rotations.{tip-opp, across}
 use Rattle.theory_realizer.specs.Trace.{edge}
 use Rattle.theory_realizer.specs.Realizer.{Inner, Rim, Points, inside, along, Realizer}
 use Rattle.theory_peeling.specs.Inside.{inside-start, three, org-opp0, org-opp1, org-opp2, tip-opp2, proper01, proper12, proper20}
-use Rattle.theory_peeling.specs.Peel.{Peel, trace, passes, gone, heads, lasts, mids, tris, fans-trace, removedVertices-trace, passes-inside, passes-all}
+use Rattle.theory_peeling.specs.Peel.{Peel, trace, passes, gone, heads, lasts, mids, tris, fans-trace, removedVertices-trace, passes-inside}
+use Rattle.theory_peeling.specs.Peel.{passes-all}
 use Rattle.theory_peeling.specs.Peel.{passes-once, gone-distinct, gone-all, gone-below, gone-inner, frontier-goes, heads-gone, gone-heads, heads-dist}
 use Rattle.theory_peeling.specs.Peel.{lasts-gone, gone-lasts, lasts-dist, heads-rise, lasts-rise, tris-rise, tris-length, tris-outer, tris-inner}
 use Rattle.theory_peeling.specs.MiddleVertices.{mids-apart, mids-dist, mids-all}

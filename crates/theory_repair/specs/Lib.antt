@@ -1,5 +1,5 @@
--- What maps and repair keep, from what the maps of unit weights satisfy: sums, bounds, areas, and the raises of repair; and which triangles a raise can turn bad.
--- `Demand` says it all.
+-- What maps and repair keep, from what the maps of unit weights satisfy: sums, bounds, areas, and the raises of repair; and which triangles a raise can turn
+-- bad. `Demand` says it all.
 pub mod Parts
 pub mod Coordinates
 pub mod Bounds

@@ -18,7 +18,8 @@ returns-2 : tie.Need-returns-2
 returns-2 c =
     let start : tie.Start = search in
     let examined : tie.After-examine = search in
-    peeled _ _ _ (start .pre) (examined .examine .last .1 .1 .0) (examined .examine .result) (search) (examined .examine .ensures) _ (c .before .peel .ensures)
+    peeled _ _ _ (start .pre) (examined .examine .last .1 .1 .0) (examined .examine .result) (search) (examined .examine .ensures) _
+    (c .before .peel .ensures)
 
 pub label-mesh-spec : {M : Type 1} → statement M
 label-mesh-spec =

@@ -14,7 +14,8 @@ returns : tie.Need-returns
 returns c =
     let start : tie.Start = search in
     let labelled : tie.After-label-mesh = search in
-    runs-refused _ _ _ _ (start .pre) _ _ (labelled-refused _ _ (labelled .label-mesh .last .1 .1 .0) (labelled .label-mesh .result) _ (c .before .enum-told2 .given .1) (labelled .label-mesh .ensures)) (cc)
+    runs-refused _ _ _ _ (start .pre) _ _ (labelled-refused _ _ (labelled .label-mesh .last .1 .1 .0) (labelled .label-mesh .result) _
+    (c .before .enum-told2 .given .1) (labelled .label-mesh .ensures)) (cc)
 
 write-labels-requires : tie.Need-write-labels-requires
 write-labels-requires c κs =

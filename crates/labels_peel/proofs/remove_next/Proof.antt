@@ -28,7 +28,8 @@ remove-vertex-requires c κs = let k = c .before .before .set-global-bound .kept
           (c .before .before .before .before .before .before .before .before .before .before .before .pre .1)
           (c .before .before .before .before .before .before .before .before .before .before .before .pre .2)),
       holds-kept k (below-holds (c .before .before .before .before .before .before .first-removable .result)
-          (c .before .before .before .before .before .before .before .before .before .before .before .pre .1) (c .before .before .before .before .if1 .taken)),
+          (c .before .before .before .before .before .before .before .before .before .before .before .pre .1)
+          (c .before .before .before .before .if1 .taken)),
     )
 
 same-length : tie.Need-same-length

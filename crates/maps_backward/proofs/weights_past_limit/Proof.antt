@@ -1,12 +1,12 @@
 -- `maps_backward::weights_past_limit` meets its contract. The loop's invariant: the weights passed are kept, their absolute values and those still to come
 -- make up the whole, and the sum is within the limit. Assumes nothing.
 use mathlib.Core.Path.{_≡_, refl, ap, _∙_}
-use Prim.Native.Nat.{_+_, _-_, _*_, _/_, _≤_}
+use Prim.Native.Nat.{_+_, _-_, _/_, _≤_}
 use native.Mathlib.Omega.{arith}
 use lib.ListN.{length, set}
 use lib.IntN.{natAbs}
 use Rattle.laws.specs.Lists.{clash}
-use Rattle.scratch_tables.specs.Tables.{tablesOf}
+use Rattle.scratch_tables.specs.Tables.{pastDarts, tablesOf}
 use Rattle.int64.specs.Whole.{held}
 use Rattle.maps_limits.specs.Limits.{Summed, summed-none, summed-more, summed-past, summed-all}
 use Rattle.maps_backward.specs.Slopes.{weights, length-weights, weights-is}
@@ -17,7 +17,7 @@ use Rattle.maps_backward.proofs.weights_past_limit.Tie as tie
 
 abbrev Inv-loop : tie.InvT-loop
 Inv-loop triangles scratch₀ coordinates first sum₀ i₀ scratch sum i = let ws = weights coordinates (tablesOf scratch₀ .op) triangles in
-    Buffering ws scratch₀ scratch i × Summed ws i sum × (i ≤ length triangles / 3) × (first ≡ 6 * (length scratch₀ / 10))
+    Buffering ws scratch₀ scratch i × Summed ws i sum × (i ≤ length triangles / 3) × (first ≡ pastDarts (length scratch₀))
 
 abbrev μ-loop : tie.MeasureT-loop
 μ-loop triangles scratch₀ coordinates first sum₀ i₀ scratch sum i = length triangles / 3 - i
@@ -46,18 +46,20 @@ loop-again c =
     let in-loop : tie.In-loop Inv-loop μ-loop = search in
     let after-weight-of : tie.After-weight-of Inv-loop μ-loop = search in
     let after-magnitude : tie.After-magnitude Inv-loop μ-loop = search in
+    let past : tie.After-past-darts Inv-loop μ-loop = search in
     let else1 : tie.Else1 Inv-loop μ-loop = search in
     let a = start .args in let ts = a .triangles .now in let bs = a .coordinates .now in let s = a .scratch .now in let ws = weights bs (tablesOf s .op) ts in
     let i = at-loop .loop .i in
     let x = after-weight-of .weight-of in let m = after-magnitude .magnitude in let h = in-loop .loop-test .taken in
     let e = kept-weight bs ts s (at-loop .loop .scratch) i (x .result) (at-loop .loop .inv .0) h (x .ensures) in let k = held (x .result) (x .ok) in (
-      keeping-more ws s (at-loop .loop .scratch) (c .before .put .last .0) i (6 * (length s / 10) + i) (x .result) (at-loop .loop .inv .0) refl
-          (omega (arith, start .pre .1, h, at-loop .loop .inv .0 .long)) (c .before .put .ensures
-          ∙ ap (set (at-loop .loop .scratch) (6 * (length s / 10) + i)) k) e,
+      keeping-more ws s (at-loop .loop .scratch) (c .before .put .last .0) i (past .past-darts .result + i) (x .result) (at-loop .loop .inv .0)
+          (omega (arith, past .past-darts .ensures .0))
+          (omega (arith, start .pre .1, h, at-loop .loop .inv .0 .long, past .past-darts .ensures .0)) (c .before .put .ensures
+          ∙ ap (set (at-loop .loop .scratch) (past .past-darts .result + i)) k) e,
       summed-more ws i (at-loop .loop .sum) (m .result) (omega (arith, length-weights bs (tablesOf s .op) ts, h)) (m .ensures .0 ∙ ap natAbs (k ∙ e))
           (omega (arith, else1 .if1 .left)) (at-loop .loop .inv .1),
       omega (arith, h),
-      refl,
+      at-loop .loop .inv .3,
     )
 
 returns-2 : tie.Need-returns-2 Inv-loop μ-loop

@@ -15,8 +15,14 @@ run-forward-requires c κs = search map-lengths
 returns-2 : tie.Need-returns-2
 returns-2 c =
     let rows : tie.After-map-rows = search in
-    let run : tie.After-run-forward = search in
-    (run .run-forward .ensures .0, (run .run-forward .ensures .1, forward-scratch _ _ _ _ _ (map-lengths _ _ _ _ _ _ (rows .map-rows .ensures) (search)) (run .run-forward .last .1 .1 .1 .1 .0) _ (omega arith) (c .before .clear .ensures)))
+    let run : tie.After-run-forward = search in (
+      run .run-forward .ensures .0,
+      (
+        run .run-forward .ensures .1,
+        forward-scratch _ _ _ _ _ (map-lengths _ _ _ _ _ _ (rows .map-rows .ensures) (search)) (run .run-forward .last .1 .1 .1 .1 .0) _ (omega arith)
+            (c .before .clear .ensures),
+      ),
+    )
 
 pub forward-spec : {M : Type 1} → statement M
 forward-spec =

@@ -13,7 +13,8 @@ returns : tie.Need-returns
 returns c =
     let start : tie.Start = search in
     let labelled : tie.After-label-mesh = search in
-    backward-mesh _ _ _ _ _ (start .pre) _ _ (labelled-refused _ _ (labelled .label-mesh .last .1 .1 .0) (labelled .label-mesh .result) _ (c .before .enum-told2 .given .1) (labelled .label-mesh .ensures)) (search)
+    backward-mesh _ _ _ _ _ (start .pre) _ _ (labelled-refused _ _ (labelled .label-mesh .last .1 .1 .0) (labelled .label-mesh .result) _
+    (c .before .enum-told2 .given .1) (labelled .label-mesh .ensures)) (search)
 
 returns-2 : tie.Need-returns-2
 returns-2 c =
@@ -57,7 +58,8 @@ returns-5 c =
     let ten = sym (range .out-of-range .ensures) ∙ in-range .if1 .left in
     let eleven = sym (corner .off-corner .ensures) ∙ on-corner .if2 .left in
     let twelve = sym (sum .off-sum .ensures) ∙ on-sum .if3 .left in
-    let A = labelled-accepted _ _ (labelled .label-mesh .last .1 .1 .0) (labelled .label-mesh .result) (accepted .enum-told .given .1) (labelled .label-mesh .ensures) in
+    let A = labelled-accepted _ _ (labelled .label-mesh .last .1 .1 .0) (labelled .label-mesh .result) (accepted .enum-told .given .1)
+    (labelled .label-mesh .ensures) in
     let nine = past .weights-past-limit .ensures .0 _ _ (A .1) in
     backward-9 _ _ _ _ _ (start .pre) (A .0 .2) ten eleven twelve (sym nine ∙ c .if4 .taken)
 
@@ -78,7 +80,8 @@ returns-6 c =
     let eleven = sym (corner .off-corner .ensures) ∙ on-corner .if2 .left in
     let twelve = sym (sum .off-sum .ensures) ∙ on-sum .if3 .left in
     let within : tie.Else4 = search in
-    let A = labelled-accepted _ _ (labelled .label-mesh .last .1 .1 .0) (labelled .label-mesh .result) (accepted .enum-told .given .1) (labelled .label-mesh .ensures) in
+    let A = labelled-accepted _ _ (labelled .label-mesh .last .1 .1 .0) (labelled .label-mesh .result) (accepted .enum-told .given .1)
+    (labelled .label-mesh .ensures) in
     let nine = past .weights-past-limit .ensures .0 _ _ (A .1) in
     let long = length-backward (start .args .triangles .now) (labels (start .args .n) (start .args .triangles .now)) (start .args .coordinates .now) in
     backward-done _ _ _ _ _ (start .pre) (A .0 .2) ten eleven twelve (sym nine ∙ within .if4 .left) _

@@ -10,7 +10,8 @@ returns : tie.Need-returns
 returns c =
     let start : tie.Start = search in
     let labelled : tie.After-label-mesh = search in
-    forward-mesh _ _ _ _ _ (start .pre) _ _ (labelled-refused _ _ (labelled .label-mesh .last .1 .1 .0) (labelled .label-mesh .result) _ (c .before .enum-told2 .given .1) (labelled .label-mesh .ensures)) (search)
+    forward-mesh _ _ _ _ _ (start .pre) _ _ (labelled-refused _ _ (labelled .label-mesh .last .1 .1 .0) (labelled .label-mesh .result) _
+    (c .before .enum-told2 .given .1) (labelled .label-mesh .ensures)) (search)
 
 returns-2 : tie.Need-returns-2
 returns-2 c =

@@ -20,9 +20,6 @@ abbrev μ-loop : tie.MeasureT-loop
 loop-holds : tie.Need-loop-holds Inv-loop μ-loop
 loop-holds c = search (tablesOf, downs-none, needs)
 
-get-mark-requires : tie.Need-get-mark-requires Inv-loop μ-loop
-get-mark-requires c κs = tt
-
 accumulate-requires : tie.Need-accumulate-requires Inv-loop μ-loop
 accumulate-requires c κs =
     let start : tie.Start Inv-loop μ-loop = search in
@@ -30,7 +27,7 @@ accumulate-requires c κs =
     let in-loop : tie.In-loop Inv-loop μ-loop = search in
     let l = at-loop .loop in
     down-room _ _ (tablesOf _) _ (l .k) _ _ (l .coordinates) (start .pre .0) (start .pre .1) (in-loop .loop-test .taken) (l .inv .0)
-    (c .before .get-mark .ensures .0)
+    (c .before .removed-vertex .ensures .0)
 
 loop-again : tie.Need-loop-again Inv-loop μ-loop
 loop-again c = search (tablesOf, downs-more, needs)
@@ -48,9 +45,7 @@ accumulate-all-spec =
     μ-loop
     loop-holds
     (λ c. search needs)
-    (λ c. search needs)
-    (λ c. search needs)
-    get-mark-requires
+    (λ c κs. search needs)
     accumulate-requires
     (λ c. search needs)
     (λ c. search needs)

@@ -20,24 +20,21 @@ abbrev μ-loop : tie.MeasureT-loop
 loop-holds : tie.Need-loop-holds Inv-loop μ-loop
 loop-holds c = search (tablesOf, ups-none, needs)
 
-sub-get-mark : tie.Need-sub-get-mark Inv-loop μ-loop
-sub-get-mark c = omega (arith, c .loop-test .taken)
+sub-removed-vertex : tie.Need-sub-removed-vertex Inv-loop μ-loop
+sub-removed-vertex c = omega (arith, c .loop-test .taken)
 
-sub-get-mark-2 : tie.Need-sub-get-mark-2 Inv-loop μ-loop
-sub-get-mark-2 c = omega (arith, c .loop-test .taken)
-
-get-mark-requires : tie.Need-get-mark-requires Inv-loop μ-loop
-get-mark-requires c κs = tt
+sub-removed-vertex-2 : tie.Need-sub-removed-vertex-2 Inv-loop μ-loop
+sub-removed-vertex-2 c = omega (arith, c .loop-test .taken)
 
 propagate-requires : tie.Need-propagate-requires Inv-loop μ-loop
 propagate-requires c κs = let l = c .before .before .before .loop in
     up-room _ _ (tablesOf _) (l .k) _ _ (l .coordinates) (search) (search) (search) (l .inv .0)
-    (c .before .get-mark .ensures .0 ∙ up-index _ (l .k) (tablesOf _) (search))
+    (c .before .removed-vertex .ensures .0 ∙ up-index _ (l .k) (tablesOf _) (search))
 
 loop-again : tie.Need-loop-again Inv-loop μ-loop
 loop-again c = let a = c .before .before .before .before .before .before .before .args in let l = c .before .before .before .before .before .loop in (
   ups-more _ (tablesOf _) (a .n - 2) (l .k) _ _ (l .coordinates) _ (l .inv .0)
-      (c .before .before .before .get-mark .ensures .0 ∙ up-index _ (l .k) (tablesOf _) (search)) (search),
+      (c .before .before .before .removed-vertex .ensures .0 ∙ up-index _ (l .k) (tablesOf _) (search)) (search),
   omega (arith, c .before .propagate .kept, l .inv .1),
   omega (arith, c .before .before .before .before .loop-test .taken),
 )
@@ -55,11 +52,9 @@ propagate-all-spec =
     μ-loop
     loop-holds
     (λ c. search needs)
-    sub-get-mark
-    sub-get-mark-2
-    (λ c. search needs)
-    (λ c. search needs)
-    get-mark-requires
+    sub-removed-vertex
+    sub-removed-vertex-2
+    (λ c κs. search needs)
     propagate-requires
     (λ c. search needs)
     (λ c. search needs)

@@ -21,7 +21,8 @@ returns-2 : tie.Need-returns-2
 returns-2 c =
     let rows : tie.After-mesh-rows = search in
     let examined : tie.After-examine = search in
-    gives-examined _ _ _ (has-fits _ _ _ _ _ (rows .mesh-rows .ensures) (search)) (examined .examine .last .1 .1 .0) _ (examined .examine .result) (examined .examine .ensures) (omega arith) (c .before .clear .ensures)
+    gives-examined _ _ _ (has-fits _ _ _ _ _ (rows .mesh-rows .ensures) (search)) (examined .examine .last .1 .1 .0) _ (examined .examine .result)
+    (examined .examine .ensures) (omega arith) (c .before .clear .ensures)
 
 pub check-spec : {M : Type 1} → statement M
 check-spec =

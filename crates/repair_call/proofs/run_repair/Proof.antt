@@ -1,6 +1,5 @@
 -- `repair_call::run_repair` meets its contract: each way out is a law of the definition. Assumes nothing.
 use mathlib.Core.Path.{sym, _∙_}
-use native.Mathlib.Omega.{arith}
 use Rattle.labels_call.specs.Labelling.{labelled-refused, labelled-accepted}
 use Rattle.repair_call.specs.CallOutcomes.{given-refusal, given-9, given-end, startable}
 use borrow.Author.Needs.{needs}
@@ -11,7 +10,8 @@ returns : tie.Need-returns
 returns c =
     let start : tie.Start = search in
     let labelled : tie.After-label-mesh = search in
-    given-refusal _ _ _ _ _ (start .pre) _ _ (labelled-refused _ _ (labelled .label-mesh .last .1 .1 .0) (labelled .label-mesh .result) _ (c .before .enum-told2 .given .1) (labelled .label-mesh .ensures)) (search)
+    given-refusal _ _ _ _ _ (start .pre) _ _ (labelled-refused _ _ (labelled .label-mesh .last .1 .1 .0) (labelled .label-mesh .result) _
+    (c .before .enum-told2 .given .1) (labelled .label-mesh .ensures)) (search)
 
 returns-2 : tie.Need-returns-2
 returns-2 c =
@@ -27,7 +27,8 @@ repair-labelled-requires c κs =
     let accepted : tie.After-enum-told = search in
     let past : tie.After-past-limit = search in
     let light : tie.Else1 = search in
-    let A = labelled-accepted _ _ (labelled .label-mesh .last .1 .1 .0) (labelled .label-mesh .result) (accepted .enum-told .given .1) (labelled .label-mesh .ensures) in
+    let A = labelled-accepted _ _ (labelled .label-mesh .last .1 .1 .0) (labelled .label-mesh .result) (accepted .enum-told .given .1)
+    (labelled .label-mesh .ensures) in
     startable _ _ _ _ (start .args .s .now) _ (start .pre) (labelled .label-mesh .kept .1 .1 .0) (sym (past .past-limit .ensures) ∙ light .if1 .left) (A .1)
 
 returns-3 : tie.Need-returns-3
@@ -38,7 +39,8 @@ returns-3 c =
     let light : tie.Else1 = search in
     let past = light .before in
     let repaired : tie.After-repair-labelled = search in
-    let A = labelled-accepted _ _ (labelled .label-mesh .last .1 .1 .0) (labelled .label-mesh .result) (accepted .enum-told .given .1) (labelled .label-mesh .ensures) in
+    let A = labelled-accepted _ _ (labelled .label-mesh .last .1 .1 .0) (labelled .label-mesh .result) (accepted .enum-told .given .1)
+    (labelled .label-mesh .ensures) in
     rw (c .ended .ensures)
     (given-end _ _ _ _ _ (start .pre) (A .0) (sym (past .past-limit .ensures) ∙ light .if1 .left) _ _ _ (repaired .repair-labelled .ensures _ (A .1)))
 

@@ -34,35 +34,17 @@ add-count c =
     omega (arith, fueled _ _ _ _ _ _ (start .pre) _ _ _ _ _ _ (at-loop .loop .inv), start-some _ _ _ _ _ _ (start .pre))
 
 next-bad-requires : tie.Need-next-bad-requires Inv-loop μ-loop
-next-bad-requires c κs = let a = c .before .before .before .before .before .before .before .before .before .before .before .before .args in
-    let S = now (a .n) (a .triangles .now) (a .s .now) (a .weights .now) (a .coordinates .now) (a .sum)
-    (c .before .before .before .before .before .before .before .before .before .before .before .before .pre)
-    (c .before .before .before .before .before .before .before .before .loop .weights)
-    (c .before .before .before .before .before .before .before .before .loop .coordinates)
-    (c .before .before .before .before .before .before .before .before .loop .total)
-    (c .before .before .before .before .before .before .before .before .loop .count)
-    (c .before .before .before .before .before .before .before .before .loop .full)
-    (c .before .before .before .before .before .before .before .before .loop .t)
-    (c .before .before .before .before .before .before .before .before .loop .inv) in (
+next-bad-requires c κs =
+    let start : tie.Start Inv-loop μ-loop = search in
+    let at-loop : tie.At-loop Inv-loop μ-loop = search in
+    let in-loop : tie.In-loop Inv-loop μ-loop = search in
+    let tried : tie.After-try-raise Inv-loop μ-loop = search in
+    let S = now _ _ _ _ _ _ (start .pre) _ _ _ _ _ _ (at-loop .loop .inv) in
+    let few = start-some _ _ _ _ _ _ (start .pre) in (
       S .lower,
-      omega (arith, c .before .before .before .before .before .before .before .loop-test .taken),
-      omega (
-        arith,
-        start-some (a .n) (a .triangles .now) (a .weights .now) (a .coordinates .now) (a .s .now) (a .sum)
-            (c .before .before .before .before .before .before .before .before .before .before .before .before .pre),
-      ),
-      next-within (a .n) (a .triangles .now) (a .s .now) (a .weights .now) (a .coordinates .now) (a .sum)
-          (c .before .before .before .before .before .before .before .before .before .before .before .before .pre)
-          (c .before .before .before .before .before .before .before .before .loop .weights)
-          (c .before .before .before .before .before .before .before .before .loop .coordinates)
-          (c .before .before .before .before .before .before .before .before .loop .total)
-          (c .before .before .before .before .before .before .before .before .loop .count)
-          (c .before .before .before .before .before .before .before .before .loop .full)
-          (c .before .before .before .before .before .before .before .before .loop .t)
-          (c .before .before .before .before .before .before .before .before .loop .inv)
-          (c .before .before .before .before .before .before .before .loop-test .taken) (c .before .before .before .before .try-raise .last .1 .1 .0)
-          (c .before .before .before .before .try-raise .last .1 .1 .1 .0) (c .before .before .before .before .try-raise .result)
-          (c .before .before .before .before .try-raise .ensures) (omega arith),
+      omega (arith, in-loop .loop-test .taken),
+      omega (arith, few),
+      next-within _ _ _ _ _ _ (start .pre) _ _ _ _ _ _ (at-loop .loop .inv) (in-loop .loop-test .taken) _ _ _ (tried .try-raise .ensures) (omega arith),
     )
 
 loop-less : tie.Need-loop-less Inv-loop μ-loop

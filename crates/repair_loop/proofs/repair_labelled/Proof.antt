@@ -30,7 +30,8 @@ run-loop-requires c κs = let a =
     (c .before .before .before .sum-of-absolutes .result)
     (c .before .before .before .before .before .before .before .before .before .before .before .before .before .before .before .before .before .pre) (cc)
     (c .before .before .before .before .before .before .before .before .before .before .before .before .write-coordinates .ensures
-    (c .before .before .before .before .before .before .before .before .before .before .before .before .before .before .before .before .before .pre .labels) (c .before .before .before .before .before .before .before .before .before .before .before .before .before .before .before .before .before .pre .peeled)) (c .before .before .before .sum-of-absolutes .ensures)
+    (c .before .before .before .before .before .before .before .before .before .before .before .before .before .before .before .before .before .pre .labels)
+    (c .before .before .before .before .before .before .before .before .before .before .before .before .before .before .before .before .before .pre .peeled)) (c .before .before .before .sum-of-absolutes .ensures)
 
 returns : tie.Need-returns
 returns c ls P = c .before .before .run-loop .ensures ls

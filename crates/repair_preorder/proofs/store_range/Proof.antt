@@ -12,7 +12,6 @@ pub store-range-spec : {M : Type 1} → statement M
 store-range-spec =
     tie.close
     (tie.spec
-    (λ c. search needs)
     (λ c κs. search needs)
     (λ c κs. search needs)
     (λ c. search needs)

@@ -13,8 +13,6 @@ pub raise-at-spec : {M : Type 1} → statement M
 raise-at-spec =
     tie.close
     (tie.spec
-    (λ c. search needs)
-    (λ c. search needs)
     (λ c κs. search needs)
     (λ c κs. search needs)
     (λ c κs. search needs)

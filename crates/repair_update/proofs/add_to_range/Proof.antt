@@ -22,15 +22,15 @@ loop-holds c = search (rowing-none, toZ-ofZ, w64, toZ, ofZ)
 mul-add-at : tie.Need-mul-add-at Inv-loop μ-loop
 mul-add-at c = omega (
   arith,
-  rowing-fits (c .before .before .before .loop .inv) (c .before .before .loop-test .taken) (c .before .entry-at .result)
-      (c .before .entry-at .ensures),
+  rowing-fits (c .before .before .before .loop .inv) (c .before .before .loop-test .taken) (c .before .load .result)
+      (c .before .load .ensures .0),
 )
 
 add-add-at : tie.Need-add-add-at Inv-loop μ-loop
 add-add-at c = omega (
   arith,
-  rowing-fits (c .before .before .before .loop .inv) (c .before .before .loop-test .taken) (c .before .entry-at .result)
-      (c .before .entry-at .ensures),
+  rowing-fits (c .before .before .before .loop .inv) (c .before .before .loop-test .taken) (c .before .load .result)
+      (c .before .load .ensures .0),
 )
 
 add-at-requires : tie.Need-add-at-requires Inv-loop μ-loop

@@ -14,13 +14,13 @@ add-to-subtree-requires c κs = let a = c .before .before .args in
 
 returns : tie.Need-returns
 returns c = let a = c .before .before .before .before .before .args in (
-  c .field0 .ensures .0 ∙ ap field0 (c .before .before .before .before .get-op .ensures .0),
+  c .field0 .ensures .0 ∙ ap field0 (c .before .before .before .before .walk-at .ensures .0),
   subst (λ (w : ℕ). Followed (a .s .now) w (a .x) (a .coordinates .now) (c .before .before .add-to-subtree .last .1 .0))
-      (c .before .before .before .before .get-op .ensures .0)
+      (c .before .before .before .before .walk-at .ensures .0)
       (rw (toZ-ofZ (c .before .before .before .before .before .fits .x)) at (c .before .before .add-to-subtree .ensures)),
 )
 
 pub step-spec : {M : Type 1} → statement M
 step-spec =
     tie.close
-    (tie.spec (λ c. search needs) (λ c κs. search needs) add-to-subtree-requires (λ c κs. search needs) (λ c. search needs) returns)
+    (tie.spec (λ c κs. search needs) add-to-subtree-requires (λ c κs. search needs) (λ c. search needs) returns)

@@ -12,8 +12,6 @@ pub removed-word-spec : {M : Type 1} → statement M
 removed-word-spec =
     tie.close
     (tie.spec
-    (λ c. search needs)
-    (λ c. search needs)
     (λ c κs. search needs)
     (λ c κs. search needs)
     (λ c κs. search needs)
