@@ -99,7 +99,7 @@ fn raise_all(
     Ended::Finished(count)
 }
 
-// The weights are finished, and their coordinates written.
+// The loop on the lent weights, and their coordinates written.
 pub fn run_loop(
     n: usize,
     triangles: &[u16],

@@ -1,4 +1,4 @@
--- `maps_forward::accumulate` meets its contract, from those of `hand_left` and `add`. Assumes nothing.
+-- `maps_forward::accumulate` meets its contract, from those of `add_left_sum` and `add`. Assumes nothing.
 use Rattle.scratch_tables.specs.Tables.{tablesOf}
 use Rattle.maps_forward.specs.LoopLaws.{leave-room, leave-made}
 use borrow.Author.Needs.{needs}

@@ -1,4 +1,4 @@
--- `maps_forward::add_left_sum` meets its contract, from those of `lay_fan` and `add`. Assumes nothing.
+-- `maps_forward::add_left_sum` meets its contract, from those of `keep_and_store` and `add`. Assumes nothing.
 use Rattle.scratch_tables.specs.Tables.{tablesOf}
 use Rattle.maps_forward.specs.LoopLaws.{handed-room, handed-made}
 use borrow.Author.Needs.{needs}

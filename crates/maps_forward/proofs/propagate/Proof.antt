@@ -1,4 +1,4 @@
--- `maps_forward::propagate` meets its contract, from those of `lift_left` and `add`. Assumes nothing.
+-- `maps_forward::propagate` meets its contract, from those of `propagate_left` and `add`. Assumes nothing.
 use Rattle.scratch_tables.specs.Tables.{tablesOf}
 use Rattle.maps_forward.specs.LoopLaws.{rise-room, rise-made}
 use borrow.Author.Needs.{needs}

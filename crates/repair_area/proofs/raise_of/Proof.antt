@@ -1,4 +1,4 @@
--- `repair_area::raise_of` meets its contract, from those of `lack`, `last_lack` and `greater`. Assumes nothing.
+-- `repair_area::raise_of` meets its contract, from those of `lack`, `last_deficit` and `greater`. Assumes nothing.
 use mathlib.Core.Path.{_∙_, ap, ap₂}
 use native.Mathlib.Omega.{arith}
 use Prim.Native.Nat.{_*_}

@@ -1,4 +1,4 @@
--- `scratch_tables::get_head` meets its contract, from that of `peek`. Past the table both sides are 0. Assumes nothing.
+-- `scratch_tables::get_head` meets its contract, from that of `load`. Past the table both sides are 0. Assumes nothing.
 use native.Mathlib.Omega.{arith}
 use mathlib.Core.Path.{sym, _∙_}
 use Rattle.scratch_tables.specs.Tables.{head-in, head-past}

@@ -1,4 +1,4 @@
--- `scratch_tables::get_mark` meets its contract, from those of `mark_at` and `peek`. Past the table both sides are 0. Assumes nothing.
+-- `scratch_tables::get_mark` meets its contract, from those of `mark_index` and `load`. Past the table both sides are 0. Assumes nothing.
 use native.Mathlib.Omega.{arith}
 use mathlib.Core.Path.{sym, _∙_, ap}
 use Rattle.scratch_tables.specs.Tables.{wordAt, mark-in, mark-past, mark-index}

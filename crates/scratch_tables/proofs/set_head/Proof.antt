@@ -1,4 +1,4 @@
--- `scratch_tables::set_head` meets its contract, from that of `poke`. Assumes nothing.
+-- `scratch_tables::set_head` meets its contract, from that of `store`. Assumes nothing.
 use mathlib.Core.Path.{_∙_, ap}
 use Rattle.scratch_tables.specs.Tables.{tablesOf, tablesOf-head}
 use borrow.Author.Needs.{needs}

@@ -1,4 +1,4 @@
--- `scratch_tables::set_mark` meets its contract, from those of `mark_at` and `poke`. Assumes nothing.
+-- `scratch_tables::set_mark` meets its contract, from those of `mark_index` and `store`. Assumes nothing.
 use native.Mathlib.Omega.{arith}
 use mathlib.Core.Path.{_∙_, ap}
 use lib.IntN.{pos}
