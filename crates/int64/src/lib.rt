@@ -1,7 +1,7 @@
 // Whole numbers in 64 bits: each operation gives the number itself, where the operands' absolute values leave it room.
 // Slices of them are read one entry at a time, as 0 past the end.
 ghost use mathlib.Core.Path.{_≡_};
-ghost use Prim.Native.Nat.{_+_, _*_, _<_, _≤_, _^_};
+ghost use Prim.Native.Nat.{_+_, _-_, _*_, _<_, _≤_, _^_};
 ghost use lib.ListN.{length, getD, set};
 ghost use lib.IntN.{pos, natAbs, _+ℤ_, _-ℤ_, _*ℤ_};
 ghost use lib.Signed.{ltZ, leZ};
@@ -97,4 +97,22 @@ pub fn coordinate_is(s: &[i64], c: usize, i: usize, x: i64) -> bool
     ensures { λ r. ⌜ r ≡ eqZ (coordinate (now (s .entry)) c i) x ⌝ }
 {
     equal(coordinate_of(s, c, i), x)
+}
+
+// a vertex number or a count of 16 bits
+pub fn widen(x: u16) -> usize
+    ensures { λ r. ⌜ (r ≡ x) × (r < 65536) ⌝ }
+{
+    x as usize
+}
+
+// a - b, or 0
+pub fn saturating_sub(a: usize, b: usize) -> usize
+    ensures is { λ r. ⌜ r ≡ a - b ⌝ }
+    ensures small { λ r. ⌜ r ≤ a ⌝ }
+{
+    if b <= a {
+        return a - b;
+    }
+    0
 }

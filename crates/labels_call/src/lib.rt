@@ -25,41 +25,41 @@ pub enum LabelsAnswer {
 
 // Rows 3 to 8 and the labels stage, for every call that needs labels. Where the mesh is accepted scratch holds the labels and the trace of the peeling.
 // Where it is refused nothing is said of scratch: the call clears it.
-pub fn label_mesh(n: usize, triangles: &[u16], s: &mut [i64]) -> MeshAnswer
-    requires { ⌜ Lent n (now triangles) (length (now s)) ⌝ }
-    ensures { λ r. ⌜ Labelling n (now (triangles .entry)) (now (s .exit)) r ⌝ }
+pub fn label_mesh(n: usize, triangles: &[u16], scratch: &mut [i64]) -> MeshAnswer
+    requires { ⌜ Lent n (now triangles) (length (now scratch)) ⌝ }
+    ensures { λ r. ⌜ Labelling n (now (triangles .entry)) (now (scratch .exit)) r ⌝ }
 {
-    let examined = examine(n, triangles, s);
+    let examined = examine(n, triangles, scratch);
     let MeshAnswer::Accepted = examined else {
         return examined;
     };
-    labels_peel::peel(triangles, s, n);
+    labels_peel::peel(triangles, scratch, n);
     MeshAnswer::Accepted
 }
 
 // the labels from corner 3 on, which is the first of an inner triangle
-fn write_labels(s: &[i64], labels: &mut [u8])
-    requires { ⌜ ((k : ℕ) → k < length (now labels) → labelIn (tablesOf (now s) .op) (k + 3) < 256) ⌝ }
-    ensures { λ r. ⌜ ((k : ℕ) → k < length (now (labels .exit)) → getD (now (labels .exit)) k 0 ≡ labelIn (tablesOf (now (s .entry)) .op) (k + 3)) ⌝ }
+fn write_labels(labels: &mut [u8], scratch: &[i64])
+    requires { ⌜ ((k : ℕ) → k < length (now labels) → labelIn (tablesOf (now scratch) .op) (k + 3) < 256) ⌝ }
+    ensures { λ r. ⌜ ((k : ℕ) → k < length (now (labels .exit)) → getD (now (labels .exit)) k 0 ≡ labelIn (tablesOf (now (scratch .entry)) .op) (k + 3)) ⌝ }
 {
     let mut i = 0;
     while i < labels.len() {
-        labels[i] = labels_tables::label_of(s, i + 3) as u8;
+        labels[i] = labels_tables::label_of(scratch, i + 3) as u8;
         i += 1;
     }
 }
 
 // Rows 3 to 8, and the labels. Nothing is said of scratch: the call clears it.
-fn run_labels(n: usize, triangles: &[u16], labels: &mut [u8], s: &mut [i64]) -> LabelsAnswer
-    requires { ⌜ LabelsFit n (now triangles) (now labels) (now s) ⌝ }
-    ensures answer { λ r. ⌜ labelsToAnswer r ≡ labelsCall n (now (triangles .entry)) (now (labels .entry)) (now (s .entry)) .answer ⌝ }
-    ensures labels { λ r. ⌜ now (labels .exit) ≡ labelsCall n (now (triangles .entry)) (now (labels .entry)) (now (s .entry)) .labels ⌝ }
+fn run_labels(n: usize, triangles: &[u16], labels: &mut [u8], scratch: &mut [i64]) -> LabelsAnswer
+    requires { ⌜ LabelsFit n (now triangles) (now labels) (now scratch) ⌝ }
+    ensures answer { λ r. ⌜ labelsToAnswer r ≡ labelsCall n (now (triangles .entry)) (now (labels .entry)) (now (scratch .entry)) .answer ⌝ }
+    ensures labels { λ r. ⌜ now (labels .exit) ≡ labelsCall n (now (triangles .entry)) (now (labels .entry)) (now (scratch .entry)) .labels ⌝ }
 {
-    let labelled = label_mesh(n, triangles, s);
+    let labelled = label_mesh(n, triangles, scratch);
     let MeshAnswer::Accepted = labelled else {
         return LabelsAnswer::Refused(refusal_of(labelled));
     };
-    write_labels(s, labels);
+    write_labels(labels, scratch);
     LabelsAnswer::Written
 }
 

@@ -1,12 +1,17 @@
 -- What scratch holds on an accepted mesh once its corners are labelled: the stage that the maps and repair start from. Assumes nothing.
 -- `ls` is any list of labels. Nothing is said of how they were found, nor of the words that the maps do not read.
 use Prim.Native.Nat.{ℕ, zero, suc, _+_, _-_, _*_, _/_, _%_, _≤_, _<_}
-use mathlib.Core.Path.{_≡_, refl}
+use mathlib.Core.Path.{_≡_, refl, sym, ap, _∙_}
+use mathlib.Core.Logic.{_≢_}
+use mathlib.Core.Bool.{cond}
 use mathlib.Core.List.{List}
 use native.Mathlib.Omega.{arith}
+use native.Mathlib.Decide.{ℕ-discrete}
+use lib.Dec.{eqb}
 use lib.ListN.{length}
 use lib.IntN.{ℤ}
-use Rattle.definitions.specs.Mesh.{trianglesLength, org, opp}
+use borrow.Author.Tests.{eq-eqb, ne-eqb}
+use Rattle.definitions.specs.Mesh.{trianglesLength, tri, next, prev, org, opp}
 use Rattle.definitions.specs.Labels.{outer, label}
 use Rattle.theory_sphere.specs.Sphere.{Sphere}
 use Rattle.theory_realizer.specs.Trace.{Trace, done, step}
@@ -47,6 +52,48 @@ oppositeIn w d = w d % 65536
 
 unfoldable pub labelIn : (ℕ → ℕ) → ℕ → ℕ
 labelIn w d = w d / 65536
+
+-- the dart at the corner of triangle t with label 2; those with labels 0 and 1 are the next and the previous one
+unfoldable pub apexDart : (ℕ → ℕ) → ℕ → ℕ
+unfolding labelIn
+apexDart w t = cond (eqb (labelIn w (3 * t)) 2) (3 * t) (cond (eqb (labelIn w (3 * t + 1)) 2) (3 * t + 1) (3 * t + 2))
+
+-- its tests in the order of the code, over the labels a and b of the first two corners
+module _ (w : ℕ → ℕ) (t a b : ℕ) (ea : a ≡ labelIn w (3 * t)) where
+  pub apex-first : a ≡ 2 → 3 * t ≡ apexDart w t
+  unfolding apexDart
+  apex-first h = rw (eq-eqb (labelIn w (3 * t)) 2 (sym ea ∙ h))
+
+  pub apex-second : b ≡ labelIn w (3 * t + 1) → a ≢ 2 → b ≡ 2 → 3 * t + 1 ≡ apexDart w t
+  unfolding apexDart
+  apex-second eb h k = rw (ne-eqb (labelIn w (3 * t)) 2 (λ e. h (ea ∙ e)), eq-eqb (labelIn w (3 * t + 1)) 2 (sym eb ∙ k))
+
+  pub apex-third : b ≡ labelIn w (3 * t + 1) → a ≢ 2 → b ≢ 2 → 3 * t + 2 ≡ apexDart w t
+  unfolding apexDart
+  apex-third eb h k = rw (ne-eqb (labelIn w (3 * t)) 2 (λ e. h (ea ∙ e)), ne-eqb (labelIn w (3 * t + 1)) 2 (λ e. k (eb ∙ e)))
+
+-- where the labels round triangle t are 2, 0 and 1 from dart g on, it is g
+pub apexDart-is : (w : ℕ → ℕ) (t g : ℕ) → tri g ≡ t → labelIn w g ≡ 2 → labelIn w (next g) ≡ 0 → labelIn w (prev g) ≡ 1 →
+    apexDart w t ≡ g
+unfolding apexDart tri next prev
+apexDart-is w t g e two zeroth oneth =
+    elim (ℕ-discrete g (3 * t)) [
+      | yes a ↦ rw (eq-eqb (labelIn w (3 * t)) 2 (rw a at two)) (sym a)
+      | no a ↦
+          elim (ℕ-discrete g (3 * t + 1)) [
+            | yes b ↦
+                let p : prev g ≡ 3 * t = omega arith in
+                rw (ne-eqb (labelIn w (3 * t)) 2 (λ q. omega (arith, q, oneth, ap (labelIn w) p)), eq-eqb (labelIn w (3 * t + 1)) 2 (rw b at two)) (sym b)
+            | no b ↦
+                let p : next g ≡ 3 * t = omega arith in
+                let r : prev g ≡ 3 * t + 1 = omega arith in
+                rw (
+                  ne-eqb (labelIn w (3 * t)) 2 (λ q. omega (arith, q, zeroth, ap (labelIn w) p)),
+                  ne-eqb (labelIn w (3 * t + 1)) 2 (λ q. omega (arith, q, oneth, ap (labelIn w) r)),
+                )
+                (omega arith)
+          ]
+    ]
 
 -- on a labelled mesh these are the opposite and the label
 module _ {n : ℕ} {ts ls : List ℕ} {s : List ℤ} (l : Labelled n ts ls s) where

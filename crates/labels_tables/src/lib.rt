@@ -2,7 +2,7 @@
 ghost use mathlib.Core.Path.{_≡_};
 ghost use Prim.Native.Nat.{_+_, _*_, _<_, _^_};
 ghost use Rattle.scratch_tables.specs.Tables.{tablesOf};
-ghost use Rattle.labels_tables.specs.LabelledTables.{oppositeIn, labelIn};
+ghost use Rattle.labels_tables.specs.LabelledTables.{oppositeIn, labelIn, apexDart};
 
 // the dart of the opposite side
 pub fn opposite(s: &[i64], d: usize) -> usize
@@ -17,6 +17,23 @@ pub fn label_of(s: &[i64], d: usize) -> usize
     ensures { λ r. ⌜ r ≡ labelIn (tablesOf (now (s .entry)) .op) d ⌝ }
 {
     scratch_tables::get_op(s, d) / 65536
+}
+
+// the dart at the corner of triangle t with label 2
+pub fn apex_dart(s: &[i64], t: usize) -> usize
+    requires { ⌜ t < 65536 ⌝ }
+    ensures is { λ r. ⌜ r ≡ apexDart (tablesOf (now (s .entry)) .op) t ⌝ }
+    ensures small { λ r. ⌜ r < 3 * t + 3 ⌝ }
+{
+    let a = label_of(s, 3 * t);
+    if a == 2 {
+        return 3 * t;
+    }
+    let b = label_of(s, 3 * t + 1);
+    if b == 2 {
+        return 3 * t + 1;
+    }
+    3 * t + 2
 }
 
 // The trace: of a removed vertex v the frontier dart to its left neighbour and the one from its right neighbour, as they were when it left.

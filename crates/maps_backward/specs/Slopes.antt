@@ -6,7 +6,6 @@ use mathlib.Core.Logic.{_≢_, inl, inr}
 use mathlib.Core.Bool.{false, cond}
 use mathlib.Core.List.{List, map}
 use native.Mathlib.Omega.{arith}
-use native.Mathlib.Decide.{ℕ-discrete}
 use lib.Dec.{eqb}
 use lib.ListN.{length, getD}
 use lib.IntN.{ℤ, pos, _-ℤ_}
@@ -28,15 +27,11 @@ use Rattle.theory_inverse.specs.Rows.{cornered}
 use Rattle.theory_inverse.specs.Slopes.{slopeBy, difference-is, slope-by, slope-opp}
 use Rattle.theory_inverse.specs.Maps.{weightAt-is}
 use Rattle.scratch_tables.specs.Tables.{tablesOf}
-use Rattle.labels_tables.specs.LabelledTables.{Peeled, oppositeIn, labelIn, whole, opp-in, oppositeIn-is, labelIn-is, outer-label}
+use Rattle.labels_tables.specs.LabelledTables.{Peeled, oppositeIn, labelIn, apexDart, apexDart-is, whole, opp-in, oppositeIn-is, labelIn-is, outer-label}
 
 -- the label across the side of dart d, at its tip
 unfoldable pub labelAcross : (ℕ → ℕ) → ℕ → ℕ
 labelAcross w d = labelIn w (oppositeIn w d)
-
--- which corner of triangle t has label 2
-unfoldable pub apexCorner : (ℕ → ℕ) → ℕ → ℕ
-apexCorner w t = cond (eqb (labelIn w (3 * t)) 2) 0 (cond (eqb (labelIn w (3 * t + 1)) 2) 1 2)
 
 -- by how much coordinate c is greater at vertex i than at vertex j
 unfoldable pub differenceOf : List ℤ → ℕ → ℕ → ℕ → ℤ
@@ -47,35 +42,22 @@ module _ (bs : List ℤ) (w : ℕ → ℕ) where
   unfoldable pub above : ℕ → ℕ → ℕ → ℤ
   above d i j = cond (eqb (labelAcross w d) 1) (differenceOf bs 0 i j) (differenceOf bs 1 j i)
 
-  -- s of another side, of dart d: it has colour 2 if the label across is l, or else b_c falls along it from i, the vertex of corner 2, to j
-  unfoldable pub below : ℕ → ℕ → ℕ → ℕ → ℕ → ℤ
-  below d l c i j = cond (eqb (labelAcross w d) l) (pos 0) (differenceOf bs c i j)
+  -- s of another side, of dart d: it has colour 2 if the label across is 2 - c, or else b_c falls along it from i, the vertex of corner 2, to j
+  unfoldable pub below : ℕ → ℕ → ℕ → ℕ → ℤ
+  below d c i j = cond (eqb (labelAcross w d) (2 - c)) (pos 0) (differenceOf bs c i j)
 
   module _ (ts : List ℕ) where
     -- the weight of the triangle whose corners 2, 0 and 1 are those of the darts g, p and q
     unfoldable pub weightFrom : ℕ → ℕ → ℕ → ℤ
-    weightFrom g p q = above p (org ts p) (org ts q) -ℤ below g 1 1 (org ts g) (org ts p) -ℤ below q 2 0 (org ts g) (org ts q)
+    weightFrom g p q = above p (org ts p) (org ts q) -ℤ below g 1 (org ts g) (org ts p) -ℤ below q 0 (org ts g) (org ts q)
 
     unfoldable pub weightOf : ℕ → ℤ
-    weightOf t = weightFrom (3 * t + apexCorner w t) (3 * t + next (apexCorner w t)) (3 * t + prev (apexCorner w t))
+    weightOf t = weightFrom (apexDart w t) (next (apexDart w t)) (prev (apexDart w t))
 
     unfoldable pub weights : List ℤ
     weights = map weightOf (inner ts)
 
 -- ---- the tests in the order of the code
-
-module _ (w : ℕ → ℕ) (t : ℕ) where
-  pub apexCorner-0 : labelIn w (3 * t) ≡ 2 → 0 ≡ apexCorner w t
-  unfolding apexCorner
-  apexCorner-0 a = rw (eq-eqb (labelIn w (3 * t)) 2 a)
-
-  pub apexCorner-1 : labelIn w (3 * t) ≢ 2 → labelIn w (3 * t + 1) ≡ 2 → 1 ≡ apexCorner w t
-  unfolding apexCorner
-  apexCorner-1 a b = rw (ne-eqb (labelIn w (3 * t)) 2 a, eq-eqb (labelIn w (3 * t + 1)) 2 b)
-
-  pub apexCorner-2 : labelIn w (3 * t) ≢ 2 → labelIn w (3 * t + 1) ≢ 2 → 2 ≡ apexCorner w t
-  unfolding apexCorner
-  apexCorner-2 a b = rw (ne-eqb (labelIn w (3 * t)) 2 a, ne-eqb (labelIn w (3 * t + 1)) 2 b)
 
 module _ (bs : List ℤ) (w : ℕ → ℕ) (d : ℕ) where
   pub above-1 : (i j : ℕ) → labelAcross w d ≡ 1 → differenceOf bs 0 i j ≡ above bs w d i j
@@ -86,13 +68,13 @@ module _ (bs : List ℤ) (w : ℕ → ℕ) (d : ℕ) where
   unfolding above
   above-0 i j e = rw (ne-eqb (labelAcross w d) 1 e)
 
-  pub below-2 : (l c i j : ℕ) → labelAcross w d ≡ l → pos 0 ≡ below bs w d l c i j
+  pub below-2 : (c i j : ℕ) → labelAcross w d ≡ 2 - c → pos 0 ≡ below bs w d c i j
   unfolding below
-  below-2 l c i j e = rw (eq-eqb (labelAcross w d) l e)
+  below-2 c i j e = rw (eq-eqb (labelAcross w d) (2 - c) e)
 
-  pub below-c : (l c i j : ℕ) → labelAcross w d ≢ l → differenceOf bs c i j ≡ below bs w d l c i j
+  pub below-c : (c i j : ℕ) → labelAcross w d ≢ 2 - c → differenceOf bs c i j ≡ below bs w d c i j
   unfolding below
-  below-c l c i j e = rw (ne-eqb (labelAcross w d) l e)
+  below-c c i j e = rw (ne-eqb (labelAcross w d) (2 - c) e)
 
 -- the list of weights, entry by entry
 module _ (bs : List ℤ) (w : ℕ → ℕ) (ts : List ℕ) where
@@ -210,18 +192,18 @@ module _ {n : ℕ} {ts ls : List ℕ} {s : List ℤ} (P : Peeled n ts ls s) (bs 
     ]
 
     -- the side from the corner with label 2 to p
-    left-by-0 : Towards ts ls 0 g → labelAcross w g ≢ 1 → below bs w g 1 1 (org ts g) (org ts p) ≡ slope ts ls bs g
+    left-by-0 : Towards ts ls 0 g → labelAcross w g ≢ 1 → below bs w g 1 (org ts g) (org ts p) ≡ slope ts ls bs g
     unfolding slopeBy
-    left-by-0 c e = sym (below-c bs w g 1 1 (org ts g) (org ts p) e) ∙ differenceOf-forth 1 g p refl ∙ forth 0 g (omega arith) c
+    left-by-0 c e = sym (below-c bs w g 1 (org ts g) (org ts p) e) ∙ differenceOf-forth 1 g p refl ∙ forth 0 g (omega arith) c
 
-    left-0-is : Towards ts ls 0 g → below bs w g 1 1 (org ts g) (org ts p) ≡ slope ts ls bs g
+    left-0-is : Towards ts ls 0 g → below bs w g 1 (org ts g) (org ts p) ≡ slope ts ls bs g
     left-0-is (inside i x y) = left-by-0 (inside i x y) (omega (arith, labelAcross-is g (a .below), y))
     left-0-is (along r x) = left-by-0 (along r x) (omega (arith, past g (a .below) (a .inner) r))
 
-    left-2-is : Towards ts ls 2 (opp ts g) → below bs w g 1 1 (org ts g) (org ts p) ≡ slope ts ls bs g
+    left-2-is : Towards ts ls 2 (opp ts g) → below bs w g 1 (org ts g) (org ts p) ≡ slope ts ls bs g
     unfolding slopeBy
     left-2-is (inside i x y) =
-        sym (below-2 bs w g 1 1 (org ts g) (org ts p) (omega (arith, turned g 2 (a .below) (i .this) x))) ∙ back 2 g (omega arith) (a .below) (inside i x y)
+        sym (below-2 bs w g 1 (org ts g) (org ts p) (omega (arith, turned g 2 (a .below) (i .this) x))) ∙ back 2 g (omega arith) (a .below) (inside i x y)
     left-2-is (along r x) = elim (r .outer) [
       | inl e ↦
           let z = rim-two (P .labelled .sphere) (P .realizer) (named ts) (opp ts g) (P .labelled .sphere .dart g (a .below)) e x in
@@ -231,23 +213,23 @@ module _ {n : ℕ} {ts ls : List ℕ} {s : List ℤ} (P : Peeled n ts ls s) (bs 
       | inr e ↦ absurd (omega (arith, a .inner, ap tri (P .labelled .sphere .twice g (a .below)), e))
     ]
 
-    left-is : below bs w g 1 1 (org ts g) (org ts p) ≡ slope ts ls bs g
+    left-is : below bs w g 1 (org ts g) (org ts p) ≡ slope ts ls bs g
     left-is = elim (fan .left) [ inl c ↦ left-0-is c | inr c ↦ left-2-is c ]
 
     -- the side from q to the corner with label 2
-    right-by-1 : Towards ts ls 1 (opp ts q) → labelAcross w q ≢ 2 → below bs w q 2 0 (org ts g) (org ts q) ≡ slope ts ls bs q
+    right-by-1 : Towards ts ls 1 (opp ts q) → labelAcross w q ≢ 2 → below bs w q 0 (org ts g) (org ts q) ≡ slope ts ls bs q
     unfolding slopeBy
-    right-by-1 c e = sym (below-c bs w q 2 0 (org ts g) (org ts q) e) ∙ differenceOf-back 0 q g (q-in .0) (next-prev g)
+    right-by-1 c e = sym (below-c bs w q 0 (org ts g) (org ts q) e) ∙ differenceOf-back 0 q g (q-in .0) (next-prev g)
         ∙ back 1 q (omega arith) (q-in .0) c
 
-    right-1-is : Towards ts ls 1 (opp ts q) → below bs w q 2 0 (org ts g) (org ts q) ≡ slope ts ls bs q
+    right-1-is : Towards ts ls 1 (opp ts q) → below bs w q 0 (org ts g) (org ts q) ≡ slope ts ls bs q
     right-1-is (inside i x y) = right-by-1 (inside i x y) (omega (arith, turned q 1 (q-in .0) (i .this) x))
     right-1-is (along r x) = right-by-1 (along r x) (omega (arith, past-back q (q-in .0) (q-in .1) r))
 
-    right-2-is : Towards ts ls 2 q → below bs w q 2 0 (org ts g) (org ts q) ≡ slope ts ls bs q
+    right-2-is : Towards ts ls 2 q → below bs w q 0 (org ts g) (org ts q) ≡ slope ts ls bs q
     unfolding slopeBy
     right-2-is (inside i x y) =
-        sym (below-2 bs w q 2 0 (org ts g) (org ts q) (labelAcross-is q (q-in .0) ∙ y)) ∙ forth 2 q (omega arith) (inside i x y)
+        sym (below-2 bs w q 0 (org ts g) (org ts q) (labelAcross-is q (q-in .0) ∙ y)) ∙ forth 2 q (omega arith) (inside i x y)
     right-2-is (along r x) = elim (r .outer) [
       | inl e ↦ absurd (omega (arith, q-in .1, e))
       | inr e ↦
@@ -255,7 +237,7 @@ module _ {n : ℕ} {ts ls : List ℕ} {s : List ℤ} (P : Peeled n ts ls s) (bs 
           right-1-is (subst (Towards ts ls 1) (sym z) (from-v2-to-v1 (P .labelled .sphere) (P .realizer) (named ts)))
     ]
 
-    right-is : below bs w q 2 0 (org ts g) (org ts q) ≡ slope ts ls bs q
+    right-is : below bs w q 0 (org ts g) (org ts q) ≡ slope ts ls bs q
     right-is = elim (fan .right) [ inl c ↦ right-1-is c | inr c ↦ right-2-is c ]
 
     weightFrom-is : weightFrom bs w ts g p q ≡ weightAt ts ls bs (tri g)
@@ -263,43 +245,20 @@ module _ {n : ℕ} {ts ls : List ℕ} {s : List ℤ} (P : Peeled n ts ls s) (bs 
     weightFrom-is = rw (above-is, left-is, right-is) (sym (weightAt-is ts ls (P .labelled .sphere) (whole (P .labelled)) (P .realizer) bs g a))
 
   -- the corner with label 2 is the one that the code finds
-  tag-at : (d c : ℕ) → d < 3 * T → label ls d ≡ c → labelIn w d ≡ c
-  tag-at d c h e = labelIn-is (P .labelled) d (omega (arith, whole (P .labelled))) ∙ e
+  label-at : (d c : ℕ) → d < 3 * T → label ls d ≡ c → labelIn w d ≡ c
+  label-at d c h e = labelIn-is (P .labelled) d (omega (arith, whole (P .labelled))) ∙ e
 
-  apexCorner-is : {g : ℕ} → Apex T (label ls) g → 3 * tri g + apexCorner w (tri g) ≡ g
-  unfolding tri next prev
-  apexCorner-is {g} a =
+  apexDart-here : (t g : ℕ) → tri g ≡ t → Apex T (label ls) g → apexDart w t ≡ g
+  apexDart-here t g e a =
       let l = apex-labels (P .labelled .sphere) (P .realizer) (named ts) a in
-      let two : (d : ℕ) → d ≡ g → labelIn w d ≡ 2 = λ d e. tag-at d 2 (omega (arith, a .below, e)) (ap (label ls) e ∙ a .two) in
-      let zero : (d : ℕ) → d ≡ next g → labelIn w d ≡ 0 = λ d e. tag-at d 0 (omega (arith, a .below, e)) (ap (label ls) e ∙ l .0) in
-      let one : (d : ℕ) → d ≡ prev g → labelIn w d ≡ 1 = λ d e. tag-at d 1 (omega (arith, a .below, e)) (ap (label ls) e ∙ l .1) in
-      elim (ℕ-discrete (g % 3) 0) [
-        | yes e ↦ omega (arith, e, apexCorner-0 w (g / 3) (two (3 * (g / 3)) (omega (arith, e))))
-        | no e ↦ elim (ℕ-discrete (g % 3) 1) [
-          | yes f ↦
-              omega (arith, f, apexCorner-1 w (g / 3) (omega (arith, one (3 * (g / 3)) (omega (arith, f)))) (two (3 * (g / 3) + 1) (omega (arith, f))))
-          | no f ↦
-              omega (
-                arith,
-                e,
-                f,
-                apexCorner-2 w (g / 3) (omega (arith, zero (3 * (g / 3)) (omega (arith, e, f))))
-                    (omega (arith, one (3 * (g / 3) + 1) (omega (arith, e, f)))),
-              )
-        ]
-      ]
-
-  beside : (t k g : ℕ) → tri g ≡ t → 3 * t + k ≡ g → (3 * t + next k ≡ next g) × (3 * t + prev k ≡ prev g)
-  unfolding tri next prev
-  beside t k g e f = omega (arith, e, f)
+      apexDart-is w t g e (label-at g 2 (a .below) (a .two)) (label-at (next g) 0 (next-below T g (a .below)) (l .0))
+      (label-at (prev g) 1 (prev-below T g (a .below)) (l .1))
 
   weightOf-is : (t : ℕ) → 0 < t → t < T → weightOf bs w ts t ≡ weightAt ts ls bs t
   unfolding weightOf
   weightOf-is t z h =
       let c = apex (P .labelled .sphere) (P .realizer) (named ts) t z h in
-      let e : 3 * t + apexCorner w t ≡ c .0 = rw (c .1) at (apexCorner-is (c .2)) in
-      let b = beside t (apexCorner w t) (c .0) (c .1) e in
-      rw (e, b .0, b .1) (weightFrom-is (c .2) ∙ ap (weightAt ts ls bs) (c .1))
+      rw (apexDart-here t (c .0) (c .1) (c .2)) (weightFrom-is (c .2) ∙ ap (weightAt ts ls bs) (c .1))
 
   -- the weights are those of the definition
   pub weights-is : weights bs w ts ≡ backward ts ls bs

@@ -12,7 +12,7 @@ ghost use Rattle.definitions.specs.Backward.{backward};
 ghost use Rattle.definitions.specs.Refusals.{row9, row10, row11};
 ghost use Rattle.scratch_tables.specs.Tables.{pastDarts, tablesOf};
 ghost use Rattle.labels_tables.specs.LabelledTables.{Peeled};
-ghost use Rattle.maps_backward.specs.Slopes.{labelAcross, apexCorner, differenceOf, above, below, weightFrom, weightOf};
+ghost use Rattle.maps_backward.specs.Slopes.{labelAcross, differenceOf, above, below, weightFrom, weightOf};
 ghost use Rattle.maps_backward.specs.Buffer.{Buffered};
 
 // the label across the side of dart d, at its tip
@@ -34,7 +34,7 @@ fn difference(coordinates: &[i64], c: usize, i: usize, j: usize) -> i64
 }
 
 // s of the side opposite corner 2, whose dart d runs from vertex i, of corner 0, to vertex j: it has colour 1 towards j, or else colour 0 towards i
-fn slope_above(scratch: &[i64], coordinates: &[i64], d: usize, i: usize, j: usize) -> i64
+fn slope_above(coordinates: &[i64], scratch: &[i64], d: usize, i: usize, j: usize) -> i64
     requires { ⌜ (i < 65536) × (j < 65536) × (row10 (now coordinates) ≡ false) ⌝ }
     ensures is { λ r. ⌜ r ≡ above (now (coordinates .entry)) (tablesOf (now (scratch .entry)) .op) d i j ⌝ }
     ensures small { λ r. ⌜ natAbs r ≤ 2 * limit ⌝ }
@@ -46,21 +46,13 @@ fn slope_above(scratch: &[i64], coordinates: &[i64], d: usize, i: usize, j: usiz
     }
 }
 
-// s of another side, of dart d: it has colour 2 if the label across is l, or else coordinate c falls along it from vertex i, of corner 2, to vertex j
-fn slope_below(
-    scratch: &[i64],
-    coordinates: &[i64],
-    d: usize,
-    l: usize,
-    c: usize,
-    i: usize,
-    j: usize,
-) -> i64
-    requires { ⌜ (c < 3) × (i < 65536) × (j < 65536) × (row10 (now coordinates) ≡ false) ⌝ }
-    ensures is { λ r. ⌜ r ≡ below (now (coordinates .entry)) (tablesOf (now (scratch .entry)) .op) d l c i j ⌝ }
+// s of another side, of dart d: it has colour 2 if the label across is 2 - c, or else coordinate c falls along it from vertex i, of corner 2, to vertex j
+fn slope_below(coordinates: &[i64], scratch: &[i64], d: usize, c: usize, i: usize, j: usize) -> i64
+    requires { ⌜ (c < 2) × (i < 65536) × (j < 65536) × (row10 (now coordinates) ≡ false) ⌝ }
+    ensures is { λ r. ⌜ r ≡ below (now (coordinates .entry)) (tablesOf (now (scratch .entry)) .op) d c i j ⌝ }
     ensures small { λ r. ⌜ natAbs r ≤ 2 * limit ⌝ }
 {
-    if label_across(scratch, d) == l {
+    if label_across(scratch, d) == 2 - c {
         0
     } else {
         difference(coordinates, c, i, j)
@@ -70,8 +62,8 @@ fn slope_below(
 // the weight of the triangle whose corners 2, 0 and 1 are those of the darts g, p and q
 fn weight_at(
     triangles: &[u16],
-    scratch: &[i64],
     coordinates: &[i64],
+    scratch: &[i64],
     g: usize,
     p: usize,
     q: usize,
@@ -82,49 +74,25 @@ fn weight_at(
     let i = scratch_tables::origin(triangles, p);
     let j = scratch_tables::origin(triangles, q);
     let k = scratch_tables::origin(triangles, g);
-    let above = slope_above(scratch, coordinates, p, i, j);
-    let left = slope_below(scratch, coordinates, g, 1, 1, k, i);
-    let right = slope_below(scratch, coordinates, q, 2, 0, k, j);
+    let above = slope_above(coordinates, scratch, p, i, j);
+    let left = slope_below(coordinates, scratch, g, 1, k, i);
+    let right = slope_below(coordinates, scratch, q, 0, k, j);
     int64::minus(int64::minus(above, left), right)
 }
 
-// which corner of triangle t has label 2
-fn apex_corner(scratch: &[i64], t: usize) -> usize
-    requires { ⌜ t < 16384 ⌝ }
-    ensures is { λ r. ⌜ r ≡ apexCorner (tablesOf (now (scratch .entry)) .op) t ⌝ }
-    ensures small { λ r. ⌜ r < 3 ⌝ }
-{
-    if labels_tables::label_of(scratch, 3 * t) == 2 {
-        0
-    } else {
-        if labels_tables::label_of(scratch, 3 * t + 1) == 2 {
-            1
-        } else {
-            2
-        }
-    }
-}
-
 // the weight of triangle t
-fn weight_of(triangles: &[u16], scratch: &[i64], coordinates: &[i64], t: usize) -> i64
+fn weight_of(triangles: &[u16], coordinates: &[i64], scratch: &[i64], t: usize) -> i64
     requires { ⌜ (t < 16384) × (row10 (now coordinates) ≡ false) ⌝ }
     ensures { λ r. ⌜ r ≡ weightOf (now (coordinates .entry)) (tablesOf (now (scratch .entry)) .op) (now (triangles .entry)) t ⌝ }
 {
-    let k = apex_corner(scratch, t);
-    let p = scratch_tables::next_dart(k);
-    let q = scratch_tables::prev_dart(k);
-    weight_at(
-        triangles,
-        scratch,
-        coordinates,
-        3 * t + k,
-        3 * t + p,
-        3 * t + q,
-    )
+    let g = labels_tables::apex_dart(scratch, t);
+    let p = scratch_tables::next_dart(g);
+    let q = scratch_tables::prev_dart(g);
+    weight_at(triangles, coordinates, scratch, g, p, q)
 }
 
 // 9 on the weights that the coordinates give. They are kept in scratch, past the words of the darts.
-pub fn weights_past_limit(triangles: &[u16], scratch: &mut [i64], coordinates: &[i64]) -> bool
+pub fn weights_past_limit(triangles: &[u16], coordinates: &[i64], scratch: &mut [i64]) -> bool
     requires { ⌜ (length (now triangles) < 32768) × (pastDarts (length (now scratch)) + length (now triangles) / 3 ≤ length (now scratch))
         × (row10 (now coordinates) ≡ false) × (row11 (now triangles) (now coordinates) ≡ false) ⌝ }
     ensures past { λ r. ⌜ ((n : ℕ) (ls : List ℕ) → Peeled n (now (triangles .entry)) ls (now (scratch .entry)) →
@@ -136,7 +104,7 @@ pub fn weights_past_limit(triangles: &[u16], scratch: &mut [i64], coordinates: &
     let mut sum: usize = 0;
     let mut i = 0;
     while i + 1 < triangles.len() / 3 {
-        let w = weight_of(triangles, scratch, coordinates, i + 1);
+        let w = weight_of(triangles, coordinates, scratch, i + 1);
         sum += int64::magnitude(w);
         if sum > maps_limits::LIMIT {
             return true;
@@ -148,7 +116,7 @@ pub fn weights_past_limit(triangles: &[u16], scratch: &mut [i64], coordinates: &
 }
 
 // The weights kept in scratch, written.
-pub fn write_weights(scratch: &[i64], weights: &mut [i64])
+pub fn write_weights(weights: &mut [i64], scratch: &[i64])
     requires { ⌜ length (now weights) < 32768 ⌝ }
     ensures { λ r. ⌜ ((ws : List ℤ) → Buffered ws (now (scratch .entry)) → length (now (weights .entry)) ≡ length ws → now (weights .exit) ≡ ws) ⌝ }
 {

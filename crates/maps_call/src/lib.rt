@@ -30,20 +30,20 @@ fn run_forward(
     triangles: &[u16],
     weights: &[i64],
     coordinates: &mut [i64],
-    s: &mut [i64],
+    scratch: &mut [i64],
 ) -> MapAnswer
-    requires { ⌜ Lengths n (length (now triangles)) (length (now s)) (length (now weights)) (length (now coordinates)) ⌝ }
-    ensures answer { λ r. ⌜ mapToAnswer r ≡ forwardCall n (now (triangles .entry)) (now (weights .entry)) (now (coordinates .entry)) (now (s .entry)) .answer ⌝ }
-    ensures coordinates { λ r. ⌜ now (coordinates .exit) ≡ forwardCall n (now (triangles .entry)) (now (weights .entry)) (now (coordinates .entry)) (now (s .entry)) .coordinates ⌝ }
+    requires { ⌜ Lengths n (length (now triangles)) (length (now scratch)) (length (now weights)) (length (now coordinates)) ⌝ }
+    ensures answer { λ r. ⌜ mapToAnswer r ≡ forwardCall n (now (triangles .entry)) (now (weights .entry)) (now (coordinates .entry)) (now (scratch .entry)) .answer ⌝ }
+    ensures coordinates { λ r. ⌜ now (coordinates .exit) ≡ forwardCall n (now (triangles .entry)) (now (weights .entry)) (now (coordinates .entry)) (now (scratch .entry)) .coordinates ⌝ }
 {
-    let labelled = label_mesh(n, triangles, s);
+    let labelled = label_mesh(n, triangles, scratch);
     let MeshAnswer::Accepted = labelled else {
         return MapAnswer::Refused(refusal_of(labelled));
     };
     if past_limit(weights) {
         return MapAnswer::Refused(9);
     }
-    write_coordinates(n, triangles, s, weights, coordinates);
+    write_coordinates(n, triangles, weights, coordinates, scratch);
     MapAnswer::Written
 }
 
@@ -80,13 +80,13 @@ fn run_backward(
     triangles: &[u16],
     coordinates: &[i64],
     weights: &mut [i64],
-    s: &mut [i64],
+    scratch: &mut [i64],
 ) -> MapAnswer
-    requires { ⌜ Lengths n (length (now triangles)) (length (now s)) (length (now weights)) (length (now coordinates)) ⌝ }
-    ensures answer { λ r. ⌜ mapToAnswer r ≡ backwardCall n (now (triangles .entry)) (now (coordinates .entry)) (now (weights .entry)) (now (s .entry)) .answer ⌝ }
-    ensures weights { λ r. ⌜ now (weights .exit) ≡ backwardCall n (now (triangles .entry)) (now (coordinates .entry)) (now (weights .entry)) (now (s .entry)) .weights ⌝ }
+    requires { ⌜ Lengths n (length (now triangles)) (length (now scratch)) (length (now weights)) (length (now coordinates)) ⌝ }
+    ensures answer { λ r. ⌜ mapToAnswer r ≡ backwardCall n (now (triangles .entry)) (now (coordinates .entry)) (now (weights .entry)) (now (scratch .entry)) .answer ⌝ }
+    ensures weights { λ r. ⌜ now (weights .exit) ≡ backwardCall n (now (triangles .entry)) (now (coordinates .entry)) (now (weights .entry)) (now (scratch .entry)) .weights ⌝ }
 {
-    let labelled = label_mesh(n, triangles, s);
+    let labelled = label_mesh(n, triangles, scratch);
     let MeshAnswer::Accepted = labelled else {
         return MapAnswer::Refused(refusal_of(labelled));
     };
@@ -99,10 +99,10 @@ fn run_backward(
     if off_sum(n, triangles, coordinates) {
         return MapAnswer::Refused(12);
     }
-    if weights_past_limit(triangles, s, coordinates) {
+    if weights_past_limit(triangles, coordinates, scratch) {
         return MapAnswer::Refused(9);
     }
-    write_weights(s, weights);
+    write_weights(weights, scratch);
     MapAnswer::Written
 }
 

@@ -7,7 +7,7 @@ use mathlib.Core.List.{List, map}
 use native.Mathlib.Omega.{arith}
 use lib.ListN.{length, getD, set}
 use lib.Seq.{set-out}
-use lib.IntN.{ℤ, pos, natAbs, _+ℤ_, _-ℤ_}
+use lib.IntN.{ℤ, pos, natAbs, _+ℤ_}
 use borrow.Author.Tests.{eq-eqb, ne-eqb}
 use Rattle.definitions.specs.Mesh.{weightsLength, coordinatesLength, tri, prev, org, tip}
 use Rattle.definitions.specs.Forward.{weight, forward}
@@ -16,9 +16,10 @@ use Rattle.scratch_tables.specs.Tables.{Tables, tablesOf}
 use Rattle.labels_tables.specs.LabelledTables.{Peeled, oppositeIn}
 use Rattle.definitions.specs.Backward.{coordinate}
 use Rattle.maps_forward_model.specs.Model.{wordIndex, copy, add, storeWeight, storeFan, keptAndStored, withLeftSum, accumulate, accumulateAll, withCorners}
-use Rattle.maps_forward_model.specs.Model.{withLeftB1, propagate, propagateAll, third, thirds, whole, length-lay}
+use Rattle.maps_forward_model.specs.Model.{withLeftB1, propagate, propagateAll, length-lay}
 use Rattle.maps_forward_model.specs.RemovalStep.{Room}
-use Rattle.maps_forward_model.specs.Result.{few, down-asks, up-asks, thirds-asks, whole-is}
+use Rattle.maps_forward_model.specs.Result.{few, down-asks, up-asks, thirds-pre, whole-is}
+use Rattle.maps_forward_model.specs.Thirds.{ThirdsPre, ThirdsWritten}
 use Rattle.maps_forward_model.specs.Propagate.{Ceiling}
 use native.Mathlib.Numerals.{add-one}
 
@@ -165,12 +166,6 @@ module _ (ts : List ℕ) (t : Tables) (v : ℕ) (s : List ℤ) where
   unfolding propagate
   rise-made right r to from s₁ s₂ a b c d e f = rw (f, d, e, c, b, a)
 
-pub third-made : (ts : List ℕ) (i v1 to : ℕ) (s s₁ : List ℤ) (a x y z : ℤ) → v1 ≡ org ts 2 → a ≡ coordinate s 1 v1 →
-    x ≡ coordinate s 0 i → y ≡ coordinate s 1 i →
-    z ≡ a -ℤ x -ℤ y → to ≡ wordIndex 2 i → s₁ ≡ set s to z → s₁ ≡ third ts i s
-unfolding third coordinate
-third-made ts i v1 to s s₁ a x y z p q e f g h k = rw (k, h, g, q, e, f, p)
-
 -- ---- the loops over all vertices: one more
 
 pub downs-more : (ts : List ℕ) (t : Tables) (ws : List ℤ) (k v : ℕ) (s₀ s s′ : List ℤ) → s ≡ accumulateAll ts t ws k s₀ →
@@ -185,10 +180,6 @@ pub ups-more : (ts : List ℕ) (t : Tables) (m k v : ℕ) (s₀ s s′ : List �
 unfolding propagateAll
 ups-more ts t m k v s₀ s s′ a b c = rw (add-one k, c, b, a)
 
-pub thirds-more : (ts : List ℕ) (k : ℕ) (s₀ s s′ : List ℤ) → s ≡ thirds ts k s₀ → s′ ≡ third ts k s → s′ ≡ thirds ts (k + 1) s₀
-unfolding thirds
-thirds-more ts k s₀ s s′ a b = rw (add-one k, b, a)
-
 pub downs-none : (ts : List ℕ) (t : Tables) (ws s : List ℤ) → s ≡ accumulateAll ts t ws 0 s
 unfolding accumulateAll
 downs-none ts t ws s = refl
@@ -196,16 +187,6 @@ downs-none ts t ws s = refl
 pub ups-none : (ts : List ℕ) (t : Tables) (m : ℕ) (s : List ℤ) → s ≡ propagateAll ts t m 0 s
 unfolding propagateAll
 ups-none ts t m s = refl
-
-pub thirds-none : (ts : List ℕ) (s : List ℤ) → s ≡ thirds ts 0 s
-unfolding thirds
-thirds-none ts s = refl
-
-pub whole-made : (n : ℕ) (ts : List ℕ) (t : Tables) (ws s s₁ s₂ s₃ s₄ s₅ : List ℤ) → s₁ ≡ map (λ _. pos 0) s →
-    s₂ ≡ accumulateAll ts t ws (n - 2) s₁ → s₃ ≡ withCorners ts s₂ →
-    s₄ ≡ propagateAll ts t (n - 2) (n - 2) s₃ → s₅ ≡ thirds ts n s₄ → s₅ ≡ whole n ts t ws s
-unfolding whole
-whole-made n ts t ws s s₁ s₂ s₃ s₄ s₅ a b c d e = rw (e, d, c, b, a)
 
 -- ---- what an iteration of these loops asks
 
@@ -253,17 +234,13 @@ module _ {n : ℕ} {ts ls : List ℕ} {scratch : List ℤ} (P : Peeled n ts ls s
           (sym base-is) (up-asks P ws len low s long),
     )
 
-    pub asks-thirds : (s₄ : List ℤ) → s₄ ≡ propagateAll ts t (n - 2) (n - 2) s₃ →
-        (n < 65536) × ((k : ℕ) → k < n →
-        natAbs (coordinate (thirds ts k s₄) 1 (org ts 2)) + natAbs (coordinate (thirds ts k s₄) 0 k) + natAbs
-        (coordinate (thirds ts k s₄) 1 k) < 2 ^ 63)
-    asks-thirds s₄ e₄ = (
-      few P ws len low s long,
-      subst (λ (l : List ℤ). (k : ℕ) → k < n →
-          natAbs (coordinate (thirds ts k l) 1 (org ts 2)) + natAbs (coordinate (thirds ts k l) 0 k) + natAbs (coordinate (thirds ts k l) 1 k) < 2 ^ 63)
-          (sym (e₄ ∙ ap (propagateAll ts t (n - 2) (n - 2)) base-is)) (thirds-asks P ws len low s long),
-    )
+    module _ (s₄ : List ℤ) (e₄ : s₄ ≡ propagateAll ts t (n - 2) (n - 2) s₃) where
+      high-is : s₄ ≡ propagateAll ts t (n - 2) (n - 2) (withCorners ts (accumulateAll ts t ws (n - 2) (map (λ _. pos 0) s)))
+      high-is = e₄ ∙ ap (propagateAll ts t (n - 2) (n - 2)) base-is
 
-    -- and in the end the definition's coordinates stand there
-    pub all-written : (s₄ s₅ : List ℤ) → s₄ ≡ propagateAll ts t (n - 2) (n - 2) s₃ → s₅ ≡ thirds ts n s₄ → s₅ ≡ forward n ts ls ws
-    all-written s₄ s₅ e₄ e₅ = whole-made n ts t ws s s₁ s₂ s₃ s₄ s₅ e₁ e₂ e₃ e₄ e₅ ∙ whole-is P ws len low s long
+      pub asks-thirds : ThirdsPre n ts s₄
+      asks-thirds = rw high-is (thirds-pre P ws len low s long)
+
+      -- and in the end the definition's coordinates stand there
+      pub all-written : (s₅ : List ℤ) → ThirdsWritten n (coordinate s₄ 0 (org ts 0)) s₄ s₅ → s₅ ≡ forward n ts ls ws
+      all-written s₅ C = whole-is P ws len low s long s₅ (rw high-is at C)

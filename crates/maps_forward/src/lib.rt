@@ -3,16 +3,18 @@
 ghost use mathlib.Core.Path.{_≡_};
 ghost use mathlib.Core.Bool.{false};
 ghost use mathlib.Core.List.{List};
-ghost use Prim.Native.Nat.{ℕ, suc, _+_, _-_, _*_, _<_, _^_};
+ghost use Prim.Native.Nat.{ℕ, suc, _+_, _-_, _*_, _≤_, _<_, _^_};
 ghost use lib.ListN.{length, getD, set};
-ghost use lib.IntN.{pos, natAbs};
+ghost use lib.IntN.{pos, natAbs, _-ℤ_};
 ghost use Rattle.definitions.specs.Mesh.{weightsLength, coordinatesLength, org};
 ghost use Rattle.definitions.specs.Forward.{weight, forward};
 ghost use Rattle.definitions.specs.Backward.{coordinate};
+ghost use Rattle.definitions.specs.Repair.{limit};
 ghost use Rattle.definitions.specs.Refusals.{row9};
 ghost use Rattle.scratch_tables.specs.Tables.{tablesOf};
 ghost use Rattle.labels_tables.specs.LabelledTables.{Peeled};
-ghost use Rattle.maps_forward_model.specs.Model.{wordIndex, copy, add, storeWeight, storeFan, keptAndStored, withLeftSum, accumulate, accumulateAll, withCorners, withLeftB1, propagate, propagateAll, third, thirds};
+ghost use Rattle.maps_forward_model.specs.Model.{wordIndex, copy, add, storeWeight, storeFan, keptAndStored, withLeftSum, accumulate, accumulateAll, withCorners, withLeftB1, propagate, propagateAll};
+ghost use Rattle.maps_forward_model.specs.Thirds.{ThirdsPre, ThirdsWritten};
 ghost use Rattle.maps_forward_model.specs.RemovalStep.{Room};
 ghost use Rattle.maps_forward_model.specs.Propagate.{Ceiling};
 
@@ -73,9 +75,9 @@ fn store_weight(triangles: &[u16], weights: &[i64], coordinates: &mut [i64], g: 
 // all of a fan, from one dart on up to the one whose previous dart is `stop`
 fn store_fan(
     triangles: &[u16],
-    scratch: &[i64],
     weights: &[i64],
     coordinates: &mut [i64],
+    scratch: &[i64],
     stop: usize,
     from: usize,
 )
@@ -99,9 +101,9 @@ fn store_fan(
 // v keeps the sum on its right, and its fan lays down its weights
 fn keep_and_store(
     triangles: &[u16],
-    scratch: &[i64],
     weights: &[i64],
     coordinates: &mut [i64],
+    scratch: &[i64],
     v: usize,
 )
     requires { ⌜ v < 65536 ⌝ }
@@ -113,21 +115,21 @@ fn keep_and_store(
     let from = word_index(1, r);
     copy(coordinates, to, from);
     let left = labels_tables::left_dart(scratch, v);
-    store_fan(triangles, scratch, weights, coordinates, right, left);
+    store_fan(triangles, weights, coordinates, scratch, right, left);
 }
 
 // and the sum on its left goes to the first of them
 fn add_left_sum(
     triangles: &[u16],
-    scratch: &[i64],
     weights: &[i64],
     coordinates: &mut [i64],
+    scratch: &[i64],
     v: usize,
 )
     requires { ⌜ (v < 65536) × Room (now triangles) (tablesOf (now scratch)) (now weights) v (now coordinates) ⌝ }
     ensures { λ r. ⌜ now (coordinates .exit) ≡ withLeftSum (now (triangles .entry)) (tablesOf (now (scratch .entry))) (now (weights .entry)) v (now (coordinates .entry)) ⌝ }
 {
-    keep_and_store(triangles, scratch, weights, coordinates, v);
+    keep_and_store(triangles, weights, coordinates, scratch, v);
     let left = labels_tables::left_dart(scratch, v);
     let u = scratch_tables::origin(triangles, scratch_tables::prev_dart(left));
     let to = word_index(1, u);
@@ -138,15 +140,15 @@ fn add_left_sum(
 // and the one on its right to the last
 fn accumulate(
     triangles: &[u16],
-    scratch: &[i64],
     weights: &[i64],
     coordinates: &mut [i64],
+    scratch: &[i64],
     v: usize,
 )
     requires { ⌜ (v < 65536) × Room (now triangles) (tablesOf (now scratch)) (now weights) v (now coordinates) ⌝ }
     ensures { λ r. ⌜ now (coordinates .exit) ≡ accumulate (now (triangles .entry)) (tablesOf (now (scratch .entry))) (now (weights .entry)) v (now (coordinates .entry)) ⌝ }
 {
-    add_left_sum(triangles, scratch, weights, coordinates, v);
+    add_left_sum(triangles, weights, coordinates, scratch, v);
     let right = labels_tables::right_dart(scratch, v);
     let r = scratch_tables::origin(triangles, right);
     let to = word_index(1, r);
@@ -158,9 +160,9 @@ fn accumulate(
 fn accumulate_all(
     n: usize,
     triangles: &[u16],
-    scratch: &[i64],
     weights: &[i64],
     coordinates: &mut [i64],
+    scratch: &[i64],
 )
     requires { ⌜ (n < 65536) × ((k : ℕ) → k < n - 2 → (tablesOf (now scratch) .mark (2 * k + 1) < n)
         × Room (now triangles) (tablesOf (now scratch)) (now weights) (tablesOf (now scratch) .mark (2 * k + 1))
@@ -170,7 +172,7 @@ fn accumulate_all(
     let mut k = 0;
     while k + 2 < n {
         let v = labels_tables::removed_vertex(scratch, k);
-        accumulate(triangles, scratch, weights, coordinates, v);
+        accumulate(triangles, weights, coordinates, scratch, v);
         k += 1;
     }
 }
@@ -191,7 +193,7 @@ fn place_corners(triangles: &[u16], coordinates: &mut [i64])
 }
 
 // b1 of v, from its left neighbour
-fn propagate_left(triangles: &[u16], scratch: &[i64], coordinates: &mut [i64], v: usize)
+fn propagate_left(triangles: &[u16], coordinates: &mut [i64], scratch: &[i64], v: usize)
     requires { ⌜ (v < 65536) × Ceiling (now triangles) (tablesOf (now scratch)) v (now coordinates) ⌝ }
     ensures { λ r. ⌜ now (coordinates .exit) ≡ withLeftB1 (now (triangles .entry)) (tablesOf (now (scratch .entry))) v (now (coordinates .entry)) ⌝ }
 {
@@ -203,11 +205,11 @@ fn propagate_left(triangles: &[u16], scratch: &[i64], coordinates: &mut [i64], v
 }
 
 // and b0, from its right one
-fn propagate(triangles: &[u16], scratch: &[i64], coordinates: &mut [i64], v: usize)
+fn propagate(triangles: &[u16], coordinates: &mut [i64], scratch: &[i64], v: usize)
     requires { ⌜ (v < 65536) × Ceiling (now triangles) (tablesOf (now scratch)) v (now coordinates) ⌝ }
     ensures { λ r. ⌜ now (coordinates .exit) ≡ propagate (now (triangles .entry)) (tablesOf (now (scratch .entry))) v (now (coordinates .entry)) ⌝ }
 {
-    propagate_left(triangles, scratch, coordinates, v);
+    propagate_left(triangles, coordinates, scratch, v);
     let right = labels_tables::right_dart(scratch, v);
     let r = scratch_tables::origin(triangles, right);
     let own = word_index(0, v);
@@ -216,7 +218,7 @@ fn propagate(triangles: &[u16], scratch: &[i64], coordinates: &mut [i64], v: usi
 }
 
 // all vertices come back
-fn propagate_all(n: usize, triangles: &[u16], scratch: &[i64], coordinates: &mut [i64])
+fn propagate_all(n: usize, triangles: &[u16], coordinates: &mut [i64], scratch: &[i64])
     requires { ⌜ (n < 65536) × ((k : ℕ) → k < n - 2 → (tablesOf (now scratch) .mark (2 * (n - 2 - suc k) + 1) < n)
         × Ceiling (now triangles) (tablesOf (now scratch)) (tablesOf (now scratch) .mark (2 * (n - 2 - suc k) + 1))
         (propagateAll (now triangles) (tablesOf (now scratch)) (n - 2) k (now coordinates))) ⌝ }
@@ -225,37 +227,32 @@ fn propagate_all(n: usize, triangles: &[u16], scratch: &[i64], coordinates: &mut
     let mut k = 0;
     while k + 2 < n {
         let v = labels_tables::removed_vertex(scratch, n - 3 - k);
-        propagate(triangles, scratch, coordinates, v);
+        propagate(triangles, coordinates, scratch, v);
         k += 1;
     }
 }
 
-// b2 of vertex i
-fn write_third(triangles: &[u16], coordinates: &mut [i64], i: usize)
-    requires { ⌜ (i < 65536) × (natAbs (coordinate (now coordinates) 1 (org (now triangles) 2)) + natAbs (coordinate (now coordinates) 0 i)
-        + natAbs (coordinate (now coordinates) 1 i) < 2 ^ 63) ⌝ }
-    ensures { λ r. ⌜ now (coordinates .exit) ≡ third (now (triangles .entry)) i (now (coordinates .entry)) ⌝ }
+// the third coordinate of vertex v, where the three sum to `total`
+fn write_third(coordinates: &mut [i64], total: i64, v: usize)
+    requires { ⌜ (v < 65536) × (3 * v + 2 < length (now coordinates)) × (natAbs total ≤ limit) × (natAbs (coordinate (now coordinates) 0 v) ≤ limit) × (natAbs (coordinate (now coordinates) 1 v) ≤ limit) ⌝ }
+    ensures { λ r. ⌜ now (coordinates .exit) ≡ set (now (coordinates .entry)) (3 * v + 2) (total -ℤ coordinate (now (coordinates .entry)) 0 v -ℤ coordinate (now (coordinates .entry)) 1 v) ⌝ }
 {
-    let v1 = scratch_tables::origin(triangles, 2);
-    let total = int64::coordinate_of(coordinates, 1, v1);
-    let x = int64::coordinate_of(coordinates, 0, i);
-    let y = int64::coordinate_of(coordinates, 1, i);
-    let z = int64::minus(int64::minus(total, x), y);
-    let to = word_index(2, i);
-    store(coordinates, to, z);
+    let b0 = int64::coordinate_of(coordinates, 0, v);
+    let b1 = int64::coordinate_of(coordinates, 1, v);
+    let b2 = int64::minus(int64::minus(total, b0), b1);
+    int64::put(coordinates, 3 * v + 2, b2);
 }
 
-// of all of them
-fn write_thirds(n: usize, triangles: &[u16], coordinates: &mut [i64])
-    requires { ⌜ (n < 65536) × ((k : ℕ) → k < n → natAbs (coordinate (thirds (now triangles) k (now coordinates)) 1 (org (now triangles) 2))
-        + natAbs (coordinate (thirds (now triangles) k (now coordinates)) 0 k)
-        + natAbs (coordinate (thirds (now triangles) k (now coordinates)) 1 k) < 2 ^ 63) ⌝ }
-    ensures { λ r. ⌜ now (coordinates .exit) ≡ thirds (now (triangles .entry)) n (now (coordinates .entry)) ⌝ }
+// The third coordinate of every vertex, from the two others: the three sum to N, which is coordinate 0 of v0.
+pub fn write_thirds(n: usize, triangles: &[u16], coordinates: &mut [i64])
+    requires { ⌜ ThirdsPre n (now triangles) (now coordinates) ⌝ }
+    ensures { λ r. ⌜ ThirdsWritten n (coordinate (now (coordinates .entry)) 0 (org (now (triangles .entry)) 0)) (now (coordinates .entry)) (now (coordinates .exit)) ⌝ }
 {
-    let mut k = 0;
-    while k < n {
-        write_third(triangles, coordinates, k);
-        k += 1;
+    let total = int64::coordinate_of(coordinates, 0, scratch_tables::origin(triangles, 0));
+    let mut v = 0;
+    while v < n {
+        write_third(coordinates, total, v);
+        v += 1;
     }
 }
 
@@ -263,9 +260,9 @@ fn write_thirds(n: usize, triangles: &[u16], coordinates: &mut [i64])
 pub fn write_coordinates(
     n: usize,
     triangles: &[u16],
-    scratch: &[i64],
     weights: &[i64],
     coordinates: &mut [i64],
+    scratch: &[i64],
 )
     requires { ⌜ ((ls : List ℕ) × Peeled n (now triangles) ls (now scratch)) × (length (now weights) ≡ weightsLength n) × (row9 (now weights) ≡ false)
         × (length (now coordinates) ≡ coordinatesLength n) ⌝ }
@@ -273,8 +270,8 @@ pub fn write_coordinates(
         now (coordinates .exit) ≡ forward n (now (triangles .entry)) ls (now (weights .entry))) ⌝ }
 {
     scratch_tables::clear(coordinates);
-    accumulate_all(n, triangles, scratch, weights, coordinates);
+    accumulate_all(n, triangles, weights, coordinates, scratch);
     place_corners(triangles, coordinates);
-    propagate_all(n, triangles, scratch, coordinates);
+    propagate_all(n, triangles, coordinates, scratch);
     write_thirds(n, triangles, coordinates);
 }

@@ -4,4 +4,5 @@ pub mod Model
 pub mod RemovalStep
 pub mod Accumulate
 pub mod Propagate
+pub mod Thirds
 pub mod Result

@@ -4,12 +4,12 @@ use Prim.Native.Nat.{ℕ, zero, suc, _+_, _-_, _*_, _≤_, _<_}
 use mathlib.Core.Path.{_≡_, refl, sym, ap, _∙_}
 use mathlib.Core.Logic.{_≢_, inl, inr}
 use mathlib.Core.Bool.{Bool, true, false, cond}
-use mathlib.Core.List.{List, [], _∷_, map, List·Memᴰ·head, List·Memᴰ·tail, List·Memᴰ·not-nil, List·Memᴰ·cases-cons}
+use mathlib.Core.List.{List, [], _∷_, List·Memᴰ·head, List·Memᴰ·tail, List·Memᴰ·not-nil, List·Memᴰ·cases-cons}
 use native.Mathlib.Omega.{arith}
 use lib.Dec.{eqb}
 use lib.ListN.{length, getD, set, length-set}
 use lib.Seq.{getD-set-same, getD-set-other}
-use lib.IntN.{ℤ, pos, _+ℤ_, _-ℤ_, +ℤ-idr}
+use lib.IntN.{ℤ, pos, _+ℤ_, +ℤ-idr}
 use borrow.Author.Tests.{eq-eqb, ne-eqb, eqb-true, eqb-false}
 use Rattle.definitions.specs.Mesh.{tri, prev, org, tip}
 use Rattle.definitions.specs.Forward.{weight}
@@ -62,14 +62,6 @@ module _ (ts : List ℕ) where
   unfoldable pub withCorners : List ℤ → List ℤ
   withCorners bs = copy (wordIndex 0 (org ts 0)) (wordIndex 1 (org ts 2)) (set (set bs (wordIndex 1 (org ts 0)) (pos 0)) (wordIndex 0 (org ts 2)) (pos 0))
 
-  -- b2 of vertex i, from N
-  unfoldable pub third : ℕ → List ℤ → List ℤ
-  third i bs = set bs (wordIndex 2 i) (getD bs (wordIndex 1 (org ts 2)) (pos 0) -ℤ getD bs (wordIndex 0 i) (pos 0) -ℤ getD bs (wordIndex 1 i) (pos 0))
-
-  unfoldable pub thirds : ℕ → List ℤ → List ℤ
-  thirds zero bs = bs
-  thirds (suc k) bs = third k (thirds k bs)
-
 module _ (ts : List ℕ) (t : Tables) where
   -- v comes back: b1 from its left neighbour, b0 from its right one
   unfoldable pub withLeftB1 : ℕ → List ℤ → List ℤ
@@ -82,9 +74,6 @@ module _ (ts : List ℕ) (t : Tables) where
   unfoldable pub propagateAll : ℕ → ℕ → List ℤ → List ℤ
   propagateAll m zero bs = bs
   propagateAll m (suc k) bs = propagate (t .mark (2 * (m - suc k) + 1)) (propagateAll m k bs)
-
-unfoldable pub whole : ℕ → List ℕ → Tables → List ℤ → List ℤ → List ℤ
-whole n ts t ws bs = thirds ts n (propagateAll ts t (n - 2) (n - 2) (withCorners ts (accumulateAll ts t ws (n - 2) (map (λ _. pos 0) bs))))
 
 -- ---- one word changed
 
@@ -226,16 +215,6 @@ module _ (ts : List ℕ) where
   length-cornered bs =
       length-copy (set (set bs (wordIndex 1 (org ts 0)) (pos 0)) (wordIndex 0 (org ts 2)) (pos 0)) (wordIndex 0 (org ts 0)) (wordIndex 1 (org ts 2))
       ∙ length-set (set bs (wordIndex 1 (org ts 0)) (pos 0)) (wordIndex 0 (org ts 2)) (pos 0) ∙ length-set bs (wordIndex 1 (org ts 0)) (pos 0)
-
-  pub length-third : (i : ℕ) (bs : List ℤ) → length (third ts i bs) ≡ length bs
-  unfolding third
-  length-third i bs = length-set bs (wordIndex 2 i) (getD bs (wordIndex 1 (org ts 2)) (pos 0) -ℤ getD bs (wordIndex 0 i) (pos 0) -ℤ getD bs
-      (wordIndex 1 i) (pos 0))
-
-  pub length-thirds : (k : ℕ) (bs : List ℤ) → length (thirds ts k bs) ≡ length bs
-  unfolding thirds
-  length-thirds zero bs = refl
-  length-thirds (suc k) bs = length-third k (thirds ts k bs) ∙ length-thirds k bs
 
 module _ (ts : List ℕ) (t : Tables) where
   pub length-raised : (v : ℕ) (bs : List ℤ) → length (withLeftB1 ts t v bs) ≡ length bs

@@ -1,7 +1,6 @@
 -- What the code of the forward map leaves in the lent coordinates is what the definition gives, and on the way every sum has room. Assumes nothing.
-use Prim.Native.Nat.{ℕ, zero, suc, _+_, _-_, _*_, _/_, _%_, _≤_, _<_, _^_}
+use Prim.Native.Nat.{ℕ, zero, suc, _+_, _-_, _*_, _/_, _%_, _≤_, _<_}
 use mathlib.Core.Path.{_≡_, refl, sym, ap, ap₂, _∙_}
-use mathlib.Core.Logic.{_≢_}
 use mathlib.Core.Bool.{false}
 use mathlib.Core.List.{List, map}
 use native.Mathlib.Omega.{arith}
@@ -33,49 +32,12 @@ use Rattle.theory_inverse.specs.Maps.{less-plus, through, reached, forward-draw
 use Rattle.scratch_tables.specs.Tables.{Tables, tablesOf}
 use Rattle.labels_tables.specs.LabelledTables.{Peeled, Stored, oppositeIn, oppositeIn-is}
 use Rattle.maps_forward_model.specs.Removals.{Removal, Removals, all-removals}
-use Rattle.maps_forward_model.specs.Model.{wordIndex, accumulateAll, withCorners, propagateAll, third, thirds, whole, set-at, set-off, length-downs}
-use Rattle.maps_forward_model.specs.Model.{length-cornered, length-ups, length-thirds}
+use Rattle.maps_forward_model.specs.Model.{accumulateAll, withCorners, propagateAll, length-downs, length-cornered, length-ups}
 use Rattle.maps_forward_model.specs.RemovalStep.{Room}
 use Rattle.maps_forward_model.specs.Accumulate as Falling
 use Rattle.maps_forward_model.specs.Propagate as Rising
 use Rattle.maps_forward_model.specs.Propagate.{Ceiling}
-
--- ---- b2, vertex by vertex
-
-module _ (ts : List ℕ) where
-  -- the other two coordinates stay
-  pub thirds-0 : (k : ℕ) (bs : List ℤ) (i : ℕ) → coordinate (thirds ts k bs) 0 i ≡ coordinate bs 0 i
-  unfolding thirds third
-  thirds-0 zero bs i = refl
-  thirds-0 (suc k) bs i = set-off (thirds ts k bs) _ (wordIndex 2 k) 0 i (omega arith) ∙ thirds-0 k bs i
-
-  pub thirds-1 : (k : ℕ) (bs : List ℤ) (i : ℕ) → coordinate (thirds ts k bs) 1 i ≡ coordinate bs 1 i
-  unfolding thirds third
-  thirds-1 zero bs i = refl
-  thirds-1 (suc k) bs i = set-off (thirds ts k bs) _ (wordIndex 2 k) 1 i (omega arith) ∙ thirds-1 k bs i
-
-  third-is : (k : ℕ) (bs : List ℤ) → wordIndex 2 k < length bs →
-      coordinate (third ts k bs) 2 k ≡ coordinate bs 1 (org ts 2) -ℤ coordinate bs 0 k -ℤ coordinate bs 1 k
-  unfolding third coordinate
-  third-is k bs h = set-at bs _ 2 k h
-
-  third-off : (k : ℕ) (bs : List ℤ) (i : ℕ) → i ≢ k → coordinate (third ts k bs) 2 i ≡ coordinate bs 2 i
-  unfolding third
-  third-off k bs i h = set-off bs _ (wordIndex 2 k) 2 i (omega (arith, h))
-
-  pub thirds-2 : (k : ℕ) (bs : List ℤ) (i : ℕ) → i < k → wordIndex 2 i < length bs →
-      coordinate (thirds ts k bs) 2 i ≡ coordinate bs 1 (org ts 2) -ℤ coordinate bs 0 i -ℤ coordinate bs 1 i
-  unfolding thirds
-  thirds-2 zero bs i h l = absurd (omega arith)
-  thirds-2 (suc k) bs i h l =
-      elim (ℕ-discrete i k) [
-        | yes p ↦
-            ap (λ (j : ℕ). coordinate (third ts k (thirds ts k bs)) 2 j) p
-            ∙ third-is k (thirds ts k bs) (omega (arith, length-thirds ts k bs, l, p))
-            ∙ ap₂ _-ℤ_ (ap₂ _-ℤ_ (thirds-1 k bs (org ts 2)) (thirds-0 k bs k)) (thirds-1 k bs k)
-            ∙ ap (λ (j : ℕ). coordinate bs 1 (org ts 2) -ℤ coordinate bs 0 j -ℤ coordinate bs 1 j) (sym p)
-        | no p ↦ third-off k (thirds ts k bs) i p ∙ thirds-2 k bs i (omega (arith, p)) l
-      ]
+use Rattle.maps_forward_model.specs.Thirds.{ThirdsPre, ThirdsWritten}
 
 -- ---- small numbers
 
@@ -227,50 +189,46 @@ module _ {n : ℕ} {ts ls : List ℕ} {s : List ℤ} (P : Peeled n ts ls s) (ws 
 
   -- ---- b2
 
-  v1-in : org ts 2 < n
-  v1-in = sph .vertex 2 (outer-below sph R (named ts))
+  v0-in : org ts 0 < n
+  v0-in = sph .vertex 0 (omega (arith, outer-below sph R (named ts)))
 
-  -- what the code takes b2 from is small
-  pub thirds-room : (k i : ℕ) → i < n →
-      natAbs (coordinate (thirds ts k high) 1 (org ts 2)) + natAbs (coordinate (thirds ts k high) 0 i) + natAbs (coordinate (thirds ts k high) 1 i) < 2 ^ 63
-  thirds-room k i h =
-      let a = stand (org ts 2) v1-in in
-      let b = stand i h in
-      rw (thirds-1 ts k high (org ts 2) ∙ a .1, thirds-0 ts k high i ∙ b .0, thirds-1 ts k high i ∙ b .1)
-      (omega (arith, near (org ts 2) v1-in .1, near i h .0, near i h .1))
+  high-small : (c i : ℕ) → c < 2 → i < n → natAbs (coordinate high c i) ≤ limit
+  high-small zero i l h = omega (arith, ap natAbs (stand i h .0), near i h .0)
+  high-small (suc zero) i l h = omega (arith, ap natAbs (stand i h .1), near i h .1)
+  high-small (suc (suc c)) i l h = absurd (omega arith)
 
-  N-is : coordinate high 1 (org ts 2) ≡ total ws
+  long-high : length high ≡ 3 * n
+  long-high = length-ups ts t (n - 2) (n - 2) base ∙ long-base
+
+  pub thirds-pre : ThirdsPre n ts high
+  thirds-pre = record { few = P .labelled .most; first = v0-in; long = long-high; small = high-small }
+
+  N-is : coordinate high 0 (org ts 0) ≡ total ws
   N-is =
       let e : length ts / 3 - 1 ≡ weightsLength n = omega (arith, P .labelled .size) in
-      stand (org ts 2) v1-in .1 ∙ Rising.N-is ts ls sph R t D .0 ∙ through-last ts ls sph size R ws ∙ ap (λ (k : ℕ). sum (weight ws) 1 k) e
+      stand (org ts 0) v0-in .0 ∙ Rising.N-is ts ls sph R t D .1 ∙ through-last ts ls sph size R ws ∙ ap (λ (k : ℕ). sum (weight ws) 1 k) e
       ∙ sym (total-sum n ts ls (P .labelled .size) U ws len)
 
   -- ---- all of it
 
-  abbrev end : List ℤ
-  end = thirds ts n high
+  module _ (end : List ℤ) (C : ThirdsWritten n (coordinate high 0 (org ts 0)) high end) where
+    ends : (c i : ℕ) → c < 3 → i < n → coordinate end c i ≡ coordinate (forward n ts ls ws) c i
+    ends zero i l h = C .same 0 i (omega arith) ∙ stand i h .0 ∙ sym (placed i h .0)
+    ends (suc zero) i l h = C .same 1 i (omega arith) ∙ stand i h .1 ∙ sym (placed i h .1)
+    ends (suc (suc zero)) i l h =
+        let r = crossedWeight-reached ts ls sph size R ws i h in
+        C .third i h ∙ ap₂ _-ℤ_ (ap₂ _-ℤ_ N-is (stand i h .0 ∙ sym (r .0))) (stand i h .1 ∙ sym (r .1))
+        ∙ sym (coordinate-coordinatesOf n ts ls ws 2 i (omega arith) h ∙ place2 n ts ls ws i)
+    ends (suc (suc (suc c))) i l h = absurd (omega arith)
 
-  long-end : length end ≡ 3 * n
-  long-end = length-thirds ts n high ∙ length-ups ts t (n - 2) (n - 2) base ∙ long-base
-
-  ends : (c i : ℕ) → c < 3 → i < n → coordinate end c i ≡ coordinate (forward n ts ls ws) c i
-  ends zero i l h = thirds-0 ts n high i ∙ stand i h .0 ∙ sym (placed i h .0)
-  ends (suc zero) i l h = thirds-1 ts n high i ∙ stand i h .1 ∙ sym (placed i h .1)
-  ends (suc (suc zero)) i l h =
-      let r = crossedWeight-reached ts ls sph size R ws i h in
-      thirds-2 ts n high i h (omega (arith, length-ups ts t (n - 2) (n - 2) base, long-base))
-      ∙ ap₂ _-ℤ_ (ap₂ _-ℤ_ N-is (stand i h .0 ∙ sym (r .0))) (stand i h .1 ∙ sym (r .1))
-      ∙ sym (coordinate-coordinatesOf n ts ls ws 2 i (omega arith) h ∙ place2 n ts ls ws i)
-  ends (suc (suc (suc c))) i l h = absurd (omega arith)
-
-  pub whole-is : whole n ts t ws bs ≡ forward n ts ls ws
-  unfolding whole coordinate
-  whole-is =
-      ext-getD (pos 0) end (forward n ts ls ws) (long-end ∙ sym (length-forward n ts ls ws))
-      (λ d h.
-      let e : d ≡ 3 * (d / 3) + d % 3 = omega arith in
-      ap (λ (j : ℕ). getD end j (pos 0)) e ∙ ends (d % 3) (d / 3) (omega arith) (omega (arith, long-end))
-      ∙ ap (λ (j : ℕ). getD (forward n ts ls ws) j (pos 0)) (sym e))
+    pub whole-is : end ≡ forward n ts ls ws
+    unfolding coordinate
+    whole-is =
+        ext-getD (pos 0) end (forward n ts ls ws) (C .long ∙ long-high ∙ sym (length-forward n ts ls ws))
+        (λ d h.
+        let e : d ≡ 3 * (d / 3) + d % 3 = omega arith in
+        ap (λ (j : ℕ). getD end j (pos 0)) e ∙ ends (d % 3) (d / 3) (omega arith) (omega (arith, C .long, long-high))
+        ∙ ap (λ (j : ℕ). getD (forward n ts ls ws) j (pos 0)) (sym e))
 
   -- ---- what the loops ask, as they ask it
 
@@ -296,7 +254,3 @@ module _ {n : ℕ} {ts ls : List ℕ} {s : List ℤ} (P : Peeled n ts ls s) (ws 
   pub up-asks : (k : ℕ) → k < n - 2 →
       (t .mark (2 * (n - 2 - suc k) + 1) < n) × Ceiling ts t (t .mark (2 * (n - 2 - suc k) + 1)) (propagateAll ts t (n - 2) k base)
   up-asks k h = (marks (n - 2 - suc k) (omega arith), ceilings k h)
-
-  pub thirds-asks : (k : ℕ) → k < n →
-      natAbs (coordinate (thirds ts k high) 1 (org ts 2)) + natAbs (coordinate (thirds ts k high) 0 k) + natAbs (coordinate (thirds ts k high) 1 k) < 2 ^ 63
-  thirds-asks k h = thirds-room k k h

@@ -23,9 +23,9 @@ pub enum MeshAnswer {
 }
 
 // rows 3 to 6
-fn pair_sides(n: usize, triangles: &[u16], s: &mut [i64]) -> MeshAnswer
-    requires { ⌜ Lent n (now triangles) (length (now s)) ⌝ }
-    ensures { λ r. ⌜ SidesPaired n (now (triangles .entry)) (now (s .exit)) r ⌝ }
+fn pair_sides(n: usize, triangles: &[u16], scratch: &mut [i64]) -> MeshAnswer
+    requires { ⌜ Lent n (now triangles) (length (now scratch)) ⌝ }
+    ensures { λ r. ⌜ SidesPaired n (now (triangles .entry)) (now (scratch .exit)) r ⌝ }
 {
     if high_vertex(n, triangles) {
         return MeshAnswer::Refused(3);
@@ -33,9 +33,9 @@ fn pair_sides(n: usize, triangles: &[u16], s: &mut [i64]) -> MeshAnswer
     if repeated_vertex(triangles) {
         return MeshAnswer::Refused(4);
     }
-    clear_tables(s);
-    fill_incidence_lists(triangles, s);
-    let row = match_sides(n, triangles, s);
+    clear_tables(scratch);
+    fill_incidence_lists(triangles, scratch);
+    let row = match_sides(n, triangles, scratch);
     if row == 5 {
         return MeshAnswer::Refused(5);
     }
@@ -47,18 +47,18 @@ fn pair_sides(n: usize, triangles: &[u16], s: &mut [i64]) -> MeshAnswer
 
 // Rows 3 to 8, for every call on a mesh. Where the mesh is accepted scratch holds its tables: the opposites, each vertex's first dart and the number
 // of its darts. Where it is refused nothing is said of scratch: the call clears it.
-pub fn examine(n: usize, triangles: &[u16], s: &mut [i64]) -> MeshAnswer
-    requires { ⌜ Lent n (now triangles) (length (now s)) ⌝ }
-    ensures { λ r. ⌜ Examined n (now (triangles .entry)) (now (s .exit)) r ⌝ }
+pub fn examine(n: usize, triangles: &[u16], scratch: &mut [i64]) -> MeshAnswer
+    requires { ⌜ Lent n (now triangles) (length (now scratch)) ⌝ }
+    ensures { λ r. ⌜ Examined n (now (triangles .entry)) (now (scratch .exit)) r ⌝ }
 {
-    let paired = pair_sides(n, triangles, s);
+    let paired = pair_sides(n, triangles, scratch);
     let MeshAnswer::Accepted = paired else {
         return paired;
     };
-    if some_ring_broken(n, s) {
+    if some_ring_broken(n, scratch) {
         return MeshAnswer::Refused(7);
     }
-    if disconnected(s, triangles.len() / 3) {
+    if disconnected(scratch, triangles.len() / 3) {
         return MeshAnswer::Refused(8);
     }
     MeshAnswer::Accepted

@@ -37,19 +37,19 @@ fn run_repair(
     triangles: &[u16],
     weights: &mut [i64],
     coordinates: &mut [i64],
-    s: &mut [i64],
+    scratch: &mut [i64],
 ) -> RepairAnswer
-    requires { ⌜ Lengths n (length (now triangles)) (length (now s)) (length (now weights)) (length (now coordinates)) ⌝ }
-    ensures { λ r. ⌜ Given n (now (triangles .entry)) (now (weights .entry)) (now (coordinates .entry)) (now (s .entry)) (repairToAnswer r) (now (weights .exit)) (now (coordinates .exit)) ⌝ }
+    requires { ⌜ Lengths n (length (now triangles)) (length (now scratch)) (length (now weights)) (length (now coordinates)) ⌝ }
+    ensures { λ r. ⌜ Given n (now (triangles .entry)) (now (weights .entry)) (now (coordinates .entry)) (now (scratch .entry)) (repairToAnswer r) (now (weights .exit)) (now (coordinates .exit)) ⌝ }
 {
-    let labelled = label_mesh(n, triangles, s);
+    let labelled = label_mesh(n, triangles, scratch);
     let MeshAnswer::Accepted = labelled else {
         return RepairAnswer::Refused(refusal_of(labelled));
     };
     if maps_limits::past_limit(weights) {
         return RepairAnswer::Refused(9);
     }
-    let end = repair_labelled(n, triangles, weights, coordinates, s);
+    let end = repair_labelled(n, triangles, weights, coordinates, scratch);
     ended(end)
 }
 

@@ -27,7 +27,8 @@ use Rattle.repair_model.specs.Raise.{Drawn, drawn-within, drawn-all}
 use Rattle.repair_model.specs.Search.{badAt, raiseAt, Found, Next}
 use Rattle.repair_model.specs.Ready.{Ready, org-low, raise-room}
 use Rattle.repair_model.specs.LoopState.{State, Passed, more-fuel, within, at-finished, at-stopped, at-raised, at-start, within-after}
-use Rattle.repair_thirds.specs.Thirds.{Closable, Closed}
+use Rattle.maps_limits.specs.Limits.{coordinate-range}
+use Rattle.maps_forward_model.specs.Thirds.{ThirdsPre, ThirdsWritten}
 use Rattle.repair_loop.specs.OneRaise.{RaisePre, Tried, LoopPre}
 use Rattle.repair_loop.specs.UpdateOnReady.{updatable, timesMoved-moved}
 use Rattle.repair_loop.specs.declared.Ended.{Ended}
@@ -166,21 +167,21 @@ module _ (n : ℕ) (ts : List ℕ) (s ws₀ bs₀ : List ℤ) (sum : ℕ) (M : L
   -- ---- the third coordinates
 
   module _ (ws bs : List ℤ) (r : Ended) (H : (ls : List ℕ) → Ready n ts ls s → bs₀ ≡ forward n ts ls ws₀ → Halts n ts ls ws₀ ws bs r) where
-    pub closable : Closable n ts bs
+    pub thirds-pre : ThirdsPre n ts bs
     unfolding row9
-    closable =
+    thirds-pre =
         let h = H (M .labels) (M .ready) (M .drawn) in
         let o = repair-outcome n ts (M .labels) (M .ready .sphere .least) (M .ready .size) unit-maps ws₀ (M .long) .loop in
         record {
           few = M .ready .most;
           first = org-low n ts (M .labels) s (M .ready) 0;
           long = h .drawn .long;
-          within =
-              drawn-within n ts (M .labels) unit-maps (M .ready .size) (repair n ts (M .labels) ws₀ .weights) bs (o .length-kept ∙ M .long)
-              (o .light (le-ltb limit (totalAbs ws₀) (M .light))) (h .drawn);
+          small =
+              λ c i k l. coordinate-range bs (drawn-within n ts (M .labels) unit-maps (M .ready .size) (repair n ts (M .labels) ws₀ .weights) bs
+              (o .length-kept ∙ M .long) (o .light (le-ltb limit (totalAbs ws₀) (M .light))) (h .drawn)) c i;
         }
 
-    pub ends : (bs′ : List ℤ) → Closed n (coordinate bs 0 (org ts 0)) bs bs′ → (ls : List ℕ) → Ready n ts ls s →
+    pub ends : (bs′ : List ℤ) → ThirdsWritten n (coordinate bs 0 (org ts 0)) bs bs′ → (ls : List ℕ) → Ready n ts ls s →
         bs₀ ≡ forward n ts ls ws₀ → Ends n ts ls ws₀ ws bs′ r
     unfolding outer
     ends bs′ C ls Y d =

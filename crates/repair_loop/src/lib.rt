@@ -41,20 +41,20 @@ fn try_raise(
     triangles: &[u16],
     weights: &mut [i64],
     coordinates: &mut [i64],
-    s: &[i64],
+    scratch: &[i64],
     t: usize,
     sum: usize,
 ) -> usize
-    requires { ⌜ RaisePre n (now triangles) (now weights) (now coordinates) (now s) t sum ⌝ }
-    ensures { λ r. ⌜ Tried n (now (triangles .entry)) (now (s .entry)) (now (weights .entry)) (now (coordinates .entry)) (now (weights .exit)) (now (coordinates .exit)) t r ⌝ }
+    requires { ⌜ RaisePre n (now triangles) (now weights) (now coordinates) (now scratch) t sum ⌝ }
+    ensures { λ r. ⌜ Tried n (now (triangles .entry)) (now (scratch .entry)) (now (weights .entry)) (now (coordinates .entry)) (now (weights .exit)) (now (coordinates .exit)) t r ⌝ }
 {
-    let x = repair_search::raise_at(s, coordinates, t);
+    let x = repair_search::raise_at(coordinates, scratch, t);
     let new = sum_after(weights, t, sum, x);
     if new > maps_limits::LIMIT {
         return new;
     }
     repair_update::add_at(weights, t - 1, x);
-    repair_update::add_raise(n, triangles, s, coordinates, t, x);
+    repair_update::add_raise(n, triangles, coordinates, scratch, t, x);
     new
 }
 
@@ -73,26 +73,26 @@ fn raise_all(
     triangles: &[u16],
     weights: &mut [i64],
     coordinates: &mut [i64],
-    s: &[i64],
+    scratch: &[i64],
     sum: usize,
 ) -> Ended
-    requires { ⌜ LoopPre n (now triangles) (now weights) (now coordinates) (now s) sum ⌝ }
-    ensures { λ r. ⌜ ((ls : List ℕ) → Ready n (now (triangles .entry)) ls (now (s .entry)) → now (coordinates .entry) ≡ forward n (now (triangles .entry)) ls (now (weights .entry)) →
+    requires { ⌜ LoopPre n (now triangles) (now weights) (now coordinates) (now scratch) sum ⌝ }
+    ensures { λ r. ⌜ ((ls : List ℕ) → Ready n (now (triangles .entry)) ls (now (scratch .entry)) → now (coordinates .entry) ≡ forward n (now (triangles .entry)) ls (now (weights .entry)) →
         Halts n (now (triangles .entry)) ls (now (weights .entry)) (now (weights .exit)) (now (coordinates .exit)) r) ⌝ }
 {
     let end = 2 * n - 4;
     let mut total = sum;
     let mut count = 0;
     let mut full = 1;
-    let mut t = repair_search::first_bad(s, coordinates, 1, end);
+    let mut t = repair_search::first_bad(coordinates, scratch, 1, end);
     while t < end {
-        let tried = try_raise(n, triangles, weights, coordinates, s, t, total);
+        let tried = try_raise(n, triangles, weights, coordinates, scratch, t, total);
         if tried > maps_limits::LIMIT {
             return Ended::Stopped(count);
         }
         total = tried;
         count += 1;
-        let next = repair_search::next_bad(s, coordinates, full, t, end);
+        let next = repair_search::next_bad(coordinates, scratch, full, t, end);
         full = extended_after(full, t);
         t = next;
     }
@@ -105,15 +105,15 @@ pub fn run_loop(
     triangles: &[u16],
     weights: &mut [i64],
     coordinates: &mut [i64],
-    s: &[i64],
+    scratch: &[i64],
     sum: usize,
 ) -> Ended
-    requires { ⌜ LoopPre n (now triangles) (now weights) (now coordinates) (now s) sum ⌝ }
-    ensures { λ r. ⌜ ((ls : List ℕ) → Ready n (now (triangles .entry)) ls (now (s .entry)) → now (coordinates .entry) ≡ forward n (now (triangles .entry)) ls (now (weights .entry)) →
+    requires { ⌜ LoopPre n (now triangles) (now weights) (now coordinates) (now scratch) sum ⌝ }
+    ensures { λ r. ⌜ ((ls : List ℕ) → Ready n (now (triangles .entry)) ls (now (scratch .entry)) → now (coordinates .entry) ≡ forward n (now (triangles .entry)) ls (now (weights .entry)) →
         Ends n (now (triangles .entry)) ls (now (weights .entry)) (now (weights .exit)) (now (coordinates .exit)) r) ⌝ }
 {
-    let ended = raise_all(n, triangles, weights, coordinates, s, sum);
-    repair_thirds::write_thirds(n, triangles, coordinates);
+    let ended = raise_all(n, triangles, weights, coordinates, scratch, sum);
+    maps_forward::write_thirds(n, triangles, coordinates);
     ended
 }
 
@@ -137,15 +137,15 @@ pub fn repair_labelled(
     triangles: &[u16],
     weights: &mut [i64],
     coordinates: &mut [i64],
-    s: &mut [i64],
+    scratch: &mut [i64],
 ) -> Ended
-    requires { ⌜ StartPre n (now triangles) (now weights) (now coordinates) (now s) ⌝ }
-    ensures { λ r. ⌜ ((ls : List ℕ) → Peeled n (now (triangles .entry)) ls (now (s .entry)) →
+    requires { ⌜ StartPre n (now triangles) (now weights) (now coordinates) (now scratch) ⌝ }
+    ensures { λ r. ⌜ ((ls : List ℕ) → Peeled n (now (triangles .entry)) ls (now (scratch .entry)) →
         Ends n (now (triangles .entry)) ls (now (weights .entry)) (now (weights .exit)) (now (coordinates .exit)) r) ⌝ }
 {
-    maps_forward::write_coordinates(n, triangles, s, weights, coordinates);
-    repair_words::pack_words(n, triangles, s);
-    repair_preorder::build_preorders(n, triangles, s);
+    maps_forward::write_coordinates(n, triangles, weights, coordinates, scratch);
+    repair_words::pack_words(n, triangles, scratch);
+    repair_preorder::build_preorders(n, triangles, scratch);
     let sum = sum_of_absolutes(weights);
-    run_loop(n, triangles, weights, coordinates, s, sum)
+    run_loop(n, triangles, weights, coordinates, scratch, sum)
 }

@@ -2,14 +2,13 @@
 -- read back from a word. T is the tables of the labels stage, S what repair has made of them. Assumes nothing.
 use Prim.Native.Nat.{ℕ, _+_, _-_, _*_, _/_, _%_, _<_}
 use mathlib.Core.Path.{_≡_}
-use mathlib.Core.Bool.{cond}
 use mathlib.Core.List.{List}
 use native.Mathlib.Omega.{arith}
 use lib.Dec.{eqb}
 use Rattle.definitions.specs.Mesh.{tri, next, prev, org, tip}
 use Rattle.theory_realizer.specs.Units.{bit}
 use Rattle.scratch_tables.specs.Tables.{Tables, setHead, setCount}
-use Rattle.labels_tables.specs.LabelledTables.{oppositeIn, labelIn}
+use Rattle.labels_tables.specs.LabelledTables.{oppositeIn, apexDart}
 
 -- ---- four numbers in a word, 16 bits for each of the first three
 
@@ -47,15 +46,10 @@ module _ (a b c d w : ℕ) (e : w ≡ pack a b c d) (ha : a < 65536) (hb : b < 6
 
 -- ---- a triangle's corners
 
--- the corner of triangle t with label 2; those with labels 0 and 1 are the next and the previous one
-unfoldable pub apexCorner : (ℕ → ℕ) → ℕ → ℕ
-unfolding labelIn
-apexCorner w t = cond (eqb (labelIn w (3 * t)) 2) (3 * t) (cond (eqb (labelIn w (3 * t + 1)) 2) (3 * t + 1) (3 * t + 2))
-
 -- the dart by which the colour-2 walk comes from triangle t into the next one
 unfoldable pub walkDart : (ℕ → ℕ) → ℕ → ℕ
-unfolding oppositeIn apexCorner next
-walkDart w t = oppositeIn w (next (apexCorner w t))
+unfolding oppositeIn apexDart next
+walkDart w t = oppositeIn w (next (apexDart w t))
 
 -- v0 and v1, which did not leave, get the outer triangle's dart between them
 unfoldable pub withRim : List ℕ → Tables → Tables
@@ -76,8 +70,8 @@ module _ (ts : List ℕ) (T : Tables) where
 
   -- of triangle t: the vertices at its corners with the labels 0, 1, 2
   unfoldable pub cornerWord : ℕ → ℕ
-  unfolding pack apexCorner next prev org
-  cornerWord t = let g = apexCorner (T .op) t in pack (org ts (next g)) (org ts (prev g)) (org ts g) 0
+  unfolding pack apexDart next prev org
+  cornerWord t = let g = apexDart (T .op) t in pack (org ts (next g)) (org ts (prev g)) (org ts g) 0
 
   -- of the k-th vertex that leaves: itself, and its neighbours to the left and to the right
   unfoldable pub removedWord : ℕ → ℕ
@@ -92,8 +86,8 @@ pub record Packed (n : ℕ) (ts : List ℕ) (T S : Tables) : Type 0 where
 
 -- of triangle t: the triangles across the sides opposite its corners with labels 0 and 1
 unfoldable pub otherWalksWord : Tables → ℕ → ℕ
-unfolding pack tri oppositeIn apexCorner next prev
-otherWalksWord T t = let g = apexCorner (T .op) t in pack (tri (oppositeIn (T .op) (prev g))) (tri (oppositeIn (T .op) g)) 0 0
+unfolding pack tri oppositeIn apexDart next prev
+otherWalksWord T t = let g = apexDart (T .op) t in pack (tri (oppositeIn (T .op) (prev g))) (tri (oppositeIn (T .op) g)) 0 0
 
 -- S has the words of the walks of colours 0 and 1
 pub record WalksPacked (n : ℕ) (T S : Tables) : Type 0 where
@@ -112,7 +106,7 @@ unfolding walkWord walkDart tip
 walkWord-fields ts T low t w e =
     let o = walkDart (T .op) t in
     let f = endFlags T o (org ts o) (tip ts o) in
-    let l : tri o < 65536 = dart-low (T .op) (next (apexCorner (T .op) t)) in (
+    let l : tri o < 65536 = dart-low (T .op) (next (apexDart (T .op) t)) in (
       field0-is (tri o) (org ts o) (tip ts o) f w e l (low o) (low (next o)),
       field1-is (tri o) (org ts o) (tip ts o) f w e l (low o) (low (next o)),
       field2-is (tri o) (org ts o) (tip ts o) f w e l (low o) (low (next o)),

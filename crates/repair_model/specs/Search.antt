@@ -25,9 +25,9 @@ use Rattle.theory_realizer.specs.Units.{vertexAt}
 use Rattle.theory_repair.specs.RegionBorders.{line-on}
 use Rattle.theory_repair.specs.AllWalks.{beyond, line}
 use Rattle.scratch_tables.specs.Tables.{Tables}
-use Rattle.labels_tables.specs.LabelledTables.{oppositeIn, labelIn}
+use Rattle.labels_tables.specs.LabelledTables.{oppositeIn, labelIn, apexDart}
 use Rattle.repair_area.specs.Areas.{badOf, raiseOf, Agree, bad-of, raise-of}
-use Rattle.repair_model.specs.PackedWords.{dart-low, pack, field0, field1, field2, field0-is, field1-is, field2-is, apexCorner, walkDart, endFlags}
+use Rattle.repair_model.specs.PackedWords.{dart-low, pack, field0, field1, field2, field0-is, field1-is, field2-is, walkDart, endFlags}
 use Rattle.repair_model.specs.PackedWords.{cornerWord, otherWalksWord}
 use Rattle.repair_model.specs.Corners.{apex-is, apex-below}
 use Rattle.repair_model.specs.PreorderWords.{moveWord, Preordered}
@@ -119,7 +119,7 @@ move-to ts T from0 size0 from1 size1 t w e =
     let a = org ts o in
     let b = tip ts o in
     let f = endFlags T o a b in
-    let l : tri o < 65536 = dart-low (T .op) (next (apexCorner (T .op) t)) in
+    let l : tri o < 65536 = dart-low (T .op) (next (apexDart (T .op) t)) in
     elim (tested (eqb f 1)) [
       | inl p ↦ lowest (tri o) (from0 a) (size0 a) 1 w (e ∙ rw p) l
       | inr p ↦
@@ -141,7 +141,7 @@ module _ (n : ℕ) (ts ls : List ℕ) (T S : Tables) (size : length ts ≡ trian
   inside = omega (arith, size)
 
   abbrev g : ℕ
-  g = apexCorner (T .op) t
+  g = apexDart (T .op) t
 
   corners-at : (corner ls t 2 ≡ g) × (corner ls t 0 ≡ next g) × (corner ls t 1 ≡ prev g)
   corners-at = apex-is ts ls sph whole R (T .op) across-is tag-is t h inside

@@ -23,12 +23,12 @@ use Rattle.theory_crossings.specs.Walks.{near, near-across, near-none, hits}
 use Rattle.theory_crossings.specs.Tests.{named}
 use Rattle.theory_subtrees.specs.Subtree.{times, Subtree}
 use Rattle.scratch_tables.specs.Tables.{Tables}
-use Rattle.labels_tables.specs.LabelledTables.{oppositeIn, labelIn, Stored}
+use Rattle.labels_tables.specs.LabelledTables.{oppositeIn, labelIn, apexDart, Stored}
 use Rattle.repair_model.specs.RemovalOrder.{removedAt, From, first, last, removed, RemovedVertex, leaves-at, removed-below, removed-not0}
 use Rattle.repair_model.specs.RemovalOrder.{removed-not1}
 use Rattle.repair_model.specs.RemovalOrder.{every-removed, removed-once}
 use Rattle.repair_model.specs.Corners.{apex-is, apex-below, into-below}
-use Rattle.repair_model.specs.PackedWords.{pack, field0, field1, field2, field3, field0-is, field1-is, field2-is, field3-is, apexCorner, walkDart}
+use Rattle.repair_model.specs.PackedWords.{pack, field0, field1, field2, field3, field0-is, field1-is, field2-is, field3-is, walkDart}
 use Rattle.repair_model.specs.PackedWords.{endFlags}
 use Rattle.repair_model.specs.PreorderWords.{moveWord, Preordered}
 use Rattle.repair_model.specs.Neighbours.{whole, U, onward-left, onward-right, zero-not-last, one-not-first, way-not-left, way-not-right}
@@ -79,20 +79,20 @@ module _ {n : ℕ} (ts ls : List ℕ) (sph : Sphere n (length ts / 3) (org ts) (
   -- ---- one step of the walk
 
   module _ (t : ℕ) (z : 0 < t) (l : t < length ts / 3) where
-    top : Top (apexCorner w t)
+    top : Top (apexDart w t)
     top = apex-below ts ls sph (whole ts ls sph size R) R w across-is tag-is t z l
 
-    way-below : next (apexCorner w t) < 3 * (length ts / 3)
-    way-below = next-below (length ts / 3) (apexCorner w t) (top .below)
+    way-below : next (apexDart w t) < 3 * (length ts / 3)
+    way-below = next-below (length ts / 3) (apexDart w t) (top .below)
 
-    comes : walkDart w t ≡ opp ts (next (apexCorner w t))
+    comes : walkDart w t ≡ opp ts (next (apexDart w t))
     unfolding walkDart
-    comes = across-is (next (apexCorner w t)) (omega (arith, way-below, whole ts ls sph size R))
+    comes = across-is (next (apexDart w t)) (omega (arith, way-below, whole ts ls sph size R))
 
-    walk-next : (k : ℕ) → walk ts ls (suc k) t ≡ next (apexCorner w t) ∷ walk ts ls k (tri (walkDart w t))
+    walk-next : (k : ℕ) → walk ts ls (suc k) t ≡ next (apexDart w t) ∷ walk ts ls k (tri (walkDart w t))
     unfolding walk
     walk-next k =
-        let g = apexCorner w t in
+        let g = apexDart w t in
         let c : corner ls t 2 ≡ g = apex-is ts ls sph (whole ts ls sph size R) R w across-is tag-is t z l .0 in
         rw (ne-eqb t 0 (omega arith), comes, walk, c)
 
@@ -100,10 +100,10 @@ module _ {n : ℕ} (ts ls : List ℕ) (sph : Sphere n (length ts / 3) (org ts) (
     stays-in = into-below ts ls sph (whole ts ls sph size R) R w across-is tag-is t z l
 
     -- it comes in by e exactly if it crosses the side of e, where e is no triangle's way out
-    crosses-near : (e : ℕ) → e < 3 * (length ts / 3) → next (apexCorner w t) ≢ e →
-        near (opp ts) (next (apexCorner w t)) e ≡ bit (eqb (walkDart w t) e)
+    crosses-near : (e : ℕ) → e < 3 * (length ts / 3) → next (apexDart w t) ≢ e →
+        near (opp ts) (next (apexDart w t)) e ≡ bit (eqb (walkDart w t) e)
     crosses-near e h d =
-        let g = apexCorner w t in
+        let g = apexDart w t in
         rw comes
         (elim (ℕ-discrete (opp ts (next g)) e) [
           | yes q ↦ near-across (opp ts) (next g) e (sym (sph .twice (next g) way-below) ∙ ap (opp ts) q) ∙ sym (ap bit (eq-eqb (opp ts (next g)) e q))
@@ -111,25 +111,25 @@ module _ {n : ℕ} (ts ls : List ℕ) (sph : Sphere n (length ts / 3) (org ts) (
         ])
 
     -- the ends of the dart by which it comes in
-    org-into : org ts (walkDart w t) ≡ org ts (prev (apexCorner w t))
-    org-into = rw comes (sph .reverses (next (apexCorner w t)) way-below ∙ ap (org ts) (next-next (apexCorner w t)))
+    org-into : org ts (walkDart w t) ≡ org ts (prev (apexDart w t))
+    org-into = rw comes (sph .reverses (next (apexDart w t)) way-below ∙ ap (org ts) (next-next (apexDart w t)))
 
-    tip-into : tip ts (walkDart w t) ≡ org ts (next (apexCorner w t))
+    tip-into : tip ts (walkDart w t) ≡ org ts (next (apexDart w t))
     unfolding tip
-    tip-into = rw comes (tip-opp sph (next (apexCorner w t)) way-below)
+    tip-into = rw comes (tip-opp sph (next (apexDart w t)) way-below)
 
     into-dart : walkDart w t < 3 * (length ts / 3)
-    into-dart = rw comes (sph .dart (next (apexCorner w t)) way-below)
+    into-dart = rw comes (sph .dart (next (apexDart w t)) way-below)
 
     org-not-first : org ts (walkDart w t) ≢ outer ts 0
     org-not-first e =
-        one-not-first ts ls sph size R (prev (apexCorner w t)) (prev-below (length ts / 3) (apexCorner w t) (top .below))
-        (omega (arith, tri-prev (apexCorner w t), top .inner))
+        one-not-first ts ls sph size R (prev (apexDart w t)) (prev-below (length ts / 3) (apexDart w t) (top .below))
+        (omega (arith, tri-prev (apexDart w t), top .inner))
         (apex-labels sph R (named ts) top .1) (sym org-into ∙ e)
 
     tip-not-last : tip ts (walkDart w t) ≢ outer ts 1
     tip-not-last e =
-        zero-not-last ts ls sph size R (next (apexCorner w t)) way-below (omega (arith, tri-next (apexCorner w t), top .inner))
+        zero-not-last ts ls sph size R (next (apexDart w t)) way-below (omega (arith, tri-next (apexDart w t), top .inner))
         (apex-labels sph R (named ts) top .0) (sym tip-into ∙ e)
 
   -- ---- one colour: the vertex `name j` leaves as the j-th, and its path goes on over the dart `dart j` to `up j`
@@ -196,7 +196,7 @@ module _ {n : ℕ} (ts ls : List ℕ) (sph : Sphere n (length ts / 3) (org ts) (
               let s = step-onward o x j h (C .comes-by t z l) in
               let on = onward k (tri o) j (stays-in t z l) h in
               let c = ap (λ (ds : List ℕ). hits (opp ts) ds (dart j)) (walk-next t z l k) in
-              let m = crosses-near t z l (dart j) (C .dart-low j h) (C .no-way j h (apexCorner w t) (top t z l)) in
+              let m = crosses-near t z l (dart j) (C .dart-low j h) (C .no-way j h (apexDart w t) (top t z l)) in
               omega (arith, a, b, s, on, c, m)
         ]
 

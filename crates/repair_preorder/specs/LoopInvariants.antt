@@ -10,7 +10,7 @@ use lib.IntN.{ℤ}
 use borrow.Author.Tests.{eq-eqb, ne-eqb, lt-ltb, le-ltb}
 use Rattle.definitions.specs.Mesh.{org}
 use Rattle.laws.specs.Lists.{tested}
-use Rattle.scratch_tables.specs.Tables.{Tables, tablesOf, setOp, setHead, setCount, setMark, upd-other}
+use Rattle.scratch_tables.specs.Tables.{Tables, tablesOf, vertexIn, setOp, setHead, setCount, setMark, upd-other}
 use Rattle.repair_model.specs.PackedWords.{pack, field0, field1, field2, field3}
 use Rattle.repair_preorder.specs.Model.{upward, downward, parent, initSize, addSize, initRoot, allocateRange, withRange, storeRange, clampIndex}
 use Rattle.repair_preorder.specs.Model.{storeEntry, storeVertex, sizesComputed, positionsComputed, preorderBuilt}
@@ -172,6 +172,10 @@ pub parent-1 : (w colour u : ℕ) → colour ≢ 0 → u ≡ field2 w → u ≡ 
 unfolding parent
 parent-1 w colour u e eu = rw (ne-eqb colour 0 e) eu
 
+-- a field f of the word w has room for its words
+pub field-room : (f : ℕ → ℕ) (w m v words : ℕ) → v ≡ f w → w ≡ m → 10 * f m + 10 ≤ words → vertexIn words v
+field-room f w m v words e q h = omega (arith, e, ap f q)
+
 pub add-is : (colour k w u a v b : ℕ) (T T′ : Tables) → w ≡ T .mark (2 * k + 1) → u ≡ parent colour w → a ≡ T .mark (2 * u) → v ≡ field0 w
     → b ≡ T .mark (2 * v) →
     T′ ≡ setMark (2 * u) ((a + b) % 65536) T → T′ ≡ addSize colour k T
@@ -227,10 +231,6 @@ seat-is n colour k w v h m i T T′ ew ev eh em ei et = et ∙ rw (ei, em, eh, e
 
 -- ---- one pass after another
 
-pub passable-is : {n words words′ : ℕ} {T : Tables} (T′ F : Tables) → T′ ≡ F → Odd T F → words′ ≡ words → PassPre n words T →
-    PassPre n words′ T′
-passable-is T′ F e o l P = rw e (passable-odd o l P)
-
 pub sized-is : (n colour : ℕ) (T T′ T″ : Tables) → T′ ≡ upward initSize n T → T″ ≡ upward (addSize colour) (n - 2) T′ →
     T″ ≡ sizesComputed n colour T
 unfolding sizesComputed
@@ -244,6 +244,33 @@ pub placed-is : (n colour root : ℕ) (T T′ T″ : Tables) → T′ ≡ initRo
     T″ ≡ positionsComputed n colour root T
 unfolding positionsComputed
 placed-is n colour root T T′ T″ e f = rw (f, e)
+
+-- each pass leaves what the next one asks for
+module _ {n words words′ : ℕ} (T T′ : Tables) where
+  passes : (F : Tables) → T′ ≡ F → Odd T F → words′ ≡ words → PassPre n words T → PassPre n words′ T′
+  passes F e o l P = rw e (passable-odd o l P)
+
+  pub ones-pass : T′ ≡ upward initSize n T → words′ ≡ words → PassPre n words T → PassPre n words′ T′
+  ones-pass e = passes _ e (odd-upward initSize odd-one n T)
+
+  pub sizes-pass : (colour : ℕ) → T′ ≡ sizesComputed n colour T → words′ ≡ words → PassPre n words T → PassPre n words′ T′
+  sizes-pass colour e = passes _ e (odd-sized n colour T)
+
+  pub root-passes : (root z : ℕ) → z ≡ T .mark (2 * root) → T′ ≡ setHead root z T → words′ ≡ words → PassPre n words T →
+      PassPre n words′ T′
+  root-passes root z ez e = passes _ (begin-is root z T T′ ez e) (odd-begin root T)
+
+  pub positions-pass : (colour root : ℕ) → T′ ≡ positionsComputed n colour root T → words′ ≡ words → PassPre n words T →
+      PassPre n words′ T′
+  positions-pass colour root e = passes _ e (odd-placed n colour root T)
+
+  pub ranges-pass : (colour : ℕ) → T′ ≡ upward (storeRange colour) (2 * n - 4) T → words′ ≡ words → PassPre n words T →
+      PassPre n words′ T′
+  ranges-pass colour e = passes _ e (odd-upward (storeRange colour) (odd-range colour) (2 * n - 4) T)
+
+  pub preorder-passes : (colour root : ℕ) → T′ ≡ preorderBuilt n colour root T → words′ ≡ words → PassPre n words T →
+      PassPre n words′ T′
+  preorder-passes colour root e = passes _ e (odd-built n colour root T)
 
 pub built-is : (n colour root : ℕ) (T T₁ T₂ T₃ T₄ : Tables) → T₁ ≡ sizesComputed n colour T → T₂ ≡ positionsComputed n colour root T₁
     → T₃ ≡ upward (storeRange colour) (2 * n - 4) T₂ →

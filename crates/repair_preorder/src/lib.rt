@@ -2,11 +2,13 @@
 // the sizes of the subtrees, from the first removed vertex to the last; the position of each, in reverse; the ranges of the subtrees whose side a walk crosses,
 // into the words of the walks; the vertices at their positions. Remainders, `saturating_sub` and `clamp_index` keep stores in their tables whatever the words
 // say; where paths lead to the roots they change nothing.
+use int64::saturating_sub;
 use repair_words::field0;
 use repair_words::field1;
 use repair_words::field2;
 use repair_words::field3;
 use repair_words::pack;
+use repair_words::removed_at;
 use repair_words::walk_at;
 use scratch_tables::get_head;
 use scratch_tables::get_mark;
@@ -18,7 +20,7 @@ use scratch_tables::set_op;
 ghost use mathlib.Core.Path.{_≡_};
 ghost use Prim.Native.Nat.{_+_, _-_, _*_, _<_, _≤_, _^_};
 ghost use lib.ListN.{length};
-ghost use Rattle.scratch_tables.specs.Tables.{tablesOf, Tables};
+ghost use Rattle.scratch_tables.specs.Tables.{Tables, tablesOf, vertexIn, setHead, setMark};
 ghost use Rattle.repair_model.specs.PackedWords.{field0, Packed, WalksPacked};
 ghost use Rattle.repair_model.specs.PreorderWords.{Preordered};
 ghost use Rattle.repair_preorder.specs.Model.{upward, downward, parent, initSize, addSize, allocateRange, withRange, storeRange, clampIndex, storeEntry, storeVertex, sizesComputed, positionsComputed, preorderBuilt};
@@ -36,109 +38,128 @@ fn parent(w: usize, colour: usize) -> usize
     field2(w)
 }
 
-// a - b, or 0
-fn saturating_sub(a: usize, b: usize) -> usize
-    ensures is { λ r. ⌜ r ≡ a - b ⌝ }
-    ensures small { λ r. ⌜ r ≤ a ⌝ }
+// While a preorder is built: the size of the subtree of vertex v, and where its range ends.
+fn subtree_size(scratch: &[i64], v: usize) -> usize
+    requires { ⌜ v < 65536 ⌝ }
+    ensures is { λ r. ⌜ r ≡ tablesOf (now (scratch .entry)) .mark (2 * v) ⌝ }
+    ensures small { λ r. ⌜ r < 2 ^ 63 ⌝ }
 {
-    if b <= a {
-        return a - b;
-    }
-    0
+    get_mark(scratch, 2 * v)
+}
+
+fn set_subtree_size(scratch: &mut [i64], v: usize, size: usize)
+    requires { ⌜ vertexIn (length (now scratch)) v × (v < 65536) × (size < 2 ^ 63) ⌝ }
+    ensures { λ r. ⌜ tablesOf (now (scratch .exit)) ≡ setMark (2 * v) size (tablesOf (now (scratch .entry))) ⌝ }
+{
+    set_mark(scratch, 2 * v, size);
+}
+
+fn range_end(scratch: &[i64], v: usize) -> usize
+    ensures is { λ r. ⌜ r ≡ tablesOf (now (scratch .entry)) .head v ⌝ }
+    ensures small { λ r. ⌜ r < 2 ^ 63 ⌝ }
+{
+    get_head(scratch, v)
+}
+
+fn set_range_end(scratch: &mut [i64], v: usize, end: usize)
+    requires { ⌜ vertexIn (length (now scratch)) v × (end < 2 ^ 63) ⌝ }
+    ensures { λ r. ⌜ tablesOf (now (scratch .exit)) ≡ setHead v end (tablesOf (now (scratch .entry))) ⌝ }
+{
+    set_head(scratch, v, end);
 }
 
 // each vertex for itself
-fn init_sizes(n: usize, s: &mut [i64])
-    requires { ⌜ PassPre n (length (now s)) (tablesOf (now s)) ⌝ }
-    ensures { λ r. ⌜ tablesOf (now (s .exit)) ≡ upward initSize n (tablesOf (now (s .entry))) ⌝ }
+fn init_sizes(n: usize, scratch: &mut [i64])
+    requires { ⌜ PassPre n (length (now scratch)) (tablesOf (now scratch)) ⌝ }
+    ensures { λ r. ⌜ tablesOf (now (scratch .exit)) ≡ upward initSize n (tablesOf (now (scratch .entry))) ⌝ }
 {
     let mut v = 0;
     while v < n {
-        set_mark(s, 2 * v, 1);
+        set_subtree_size(scratch, v, 1);
         v += 1;
     }
 }
 
 // the k-th vertex that left, for its parent too
-fn add_size(s: &mut [i64], colour: usize, k: usize)
-    requires { ⌜ (k < 65536) × (10 * parent colour (tablesOf (now s) .mark (2 * k + 1)) + 10 ≤ length (now s)) ⌝ }
-    ensures { λ r. ⌜ tablesOf (now (s .exit)) ≡ addSize colour k (tablesOf (now (s .entry))) ⌝ }
+fn add_size(scratch: &mut [i64], colour: usize, k: usize)
+    requires { ⌜ (k < 65536) × (10 * parent colour (tablesOf (now scratch) .mark (2 * k + 1)) + 10 ≤ length (now scratch)) ⌝ }
+    ensures { λ r. ⌜ tablesOf (now (scratch .exit)) ≡ addSize colour k (tablesOf (now (scratch .entry))) ⌝ }
 {
-    let w = get_mark(s, 2 * k + 1);
+    let w = removed_at(scratch, k);
     let u = parent(w, colour);
-    let a = get_mark(s, 2 * u);
-    let b = get_mark(s, 2 * field0(w));
-    set_mark(s, 2 * u, (a + b) % 65536);
+    let a = subtree_size(scratch, u);
+    let b = subtree_size(scratch, field0(w));
+    set_subtree_size(scratch, u, (a + b) % 65536);
 }
 
-fn accumulate_sizes(n: usize, s: &mut [i64], colour: usize)
-    requires { ⌜ PassPre n (length (now s)) (tablesOf (now s)) ⌝ }
-    ensures { λ r. ⌜ tablesOf (now (s .exit)) ≡ upward (addSize colour) (n - 2) (tablesOf (now (s .entry))) ⌝ }
+fn accumulate_sizes(n: usize, scratch: &mut [i64], colour: usize)
+    requires { ⌜ PassPre n (length (now scratch)) (tablesOf (now scratch)) ⌝ }
+    ensures { λ r. ⌜ tablesOf (now (scratch .exit)) ≡ upward (addSize colour) (n - 2) (tablesOf (now (scratch .entry))) ⌝ }
 {
     let mut k = 0;
     while k < n - 2 {
-        add_size(s, colour, k);
+        add_size(scratch, colour, k);
         k += 1;
     }
 }
 
 // the k-th vertex that left takes its place from the end of what its parent has left
-fn allocate_range(s: &mut [i64], colour: usize, k: usize)
-    requires { ⌜ (k < 65536) × (10 * field0 (tablesOf (now s) .mark (2 * k + 1)) + 10 ≤ length (now s)) × (10 * parent colour (tablesOf (now s) .mark (2 * k + 1)) + 10 ≤ length (now s)) ⌝ }
-    ensures { λ r. ⌜ tablesOf (now (s .exit)) ≡ allocateRange colour k (tablesOf (now (s .entry))) ⌝ }
+fn allocate_range(scratch: &mut [i64], colour: usize, k: usize)
+    requires { ⌜ (k < 65536) × (10 * field0 (tablesOf (now scratch) .mark (2 * k + 1)) + 10 ≤ length (now scratch)) × (10 * parent colour (tablesOf (now scratch) .mark (2 * k + 1)) + 10 ≤ length (now scratch)) ⌝ }
+    ensures { λ r. ⌜ tablesOf (now (scratch .exit)) ≡ allocateRange colour k (tablesOf (now (scratch .entry))) ⌝ }
 {
-    let w = get_mark(s, 2 * k + 1);
+    let w = removed_at(scratch, k);
     let v = field0(w);
     let u = parent(w, colour);
-    let e = get_head(s, u);
-    let rest = saturating_sub(e, get_mark(s, 2 * v));
-    set_head(s, v, e);
-    set_head(s, u, rest);
+    let end = range_end(scratch, u);
+    let rest = saturating_sub(end, subtree_size(scratch, v));
+    set_range_end(scratch, v, end);
+    set_range_end(scratch, u, rest);
 }
 
-fn allocate_ranges(n: usize, s: &mut [i64], colour: usize)
-    requires { ⌜ PassPre n (length (now s)) (tablesOf (now s)) ⌝ }
-    ensures { λ r. ⌜ tablesOf (now (s .exit)) ≡ downward (allocateRange colour) (n - 2) (tablesOf (now (s .entry))) ⌝ }
+fn allocate_ranges(n: usize, scratch: &mut [i64], colour: usize)
+    requires { ⌜ PassPre n (length (now scratch)) (tablesOf (now scratch)) ⌝ }
+    ensures { λ r. ⌜ tablesOf (now (scratch .exit)) ≡ downward (allocateRange colour) (n - 2) (tablesOf (now (scratch .entry))) ⌝ }
 {
     let mut k = n - 2;
     while 0 < k {
         k -= 1;
-        allocate_range(s, colour, k);
+        allocate_range(scratch, colour, k);
     }
 }
 
 // the word w with the place and the size of a subtree, if it leads across a side of the colour
-fn with_range(s: &[i64], colour: usize, w: usize) -> usize
+fn with_range(scratch: &[i64], colour: usize, w: usize) -> usize
     requires { ⌜ (w < 2 ^ 63) × (colour < 2) ⌝ }
-    ensures is { λ r. ⌜ r ≡ withRange colour w (tablesOf (now (s .entry))) ⌝ }
+    ensures is { λ r. ⌜ r ≡ withRange colour w (tablesOf (now (scratch .entry))) ⌝ }
     ensures small { λ r. ⌜ r < 2 ^ 63 ⌝ }
 {
     let f = field3(w);
     if f == colour + 1 {
         let v = parent(w, colour);
-        let from = field0(saturating_sub(get_head(s, v), 1));
-        let size = field0(get_mark(s, 2 * v));
+        let from = field0(saturating_sub(range_end(scratch, v), 1));
+        let size = field0(subtree_size(scratch, v));
         return pack(field0(w), from, size, f);
     }
     w
 }
 
-fn store_range(s: &mut [i64], colour: usize, t: usize)
-    requires { ⌜ (0 < t) × (t < 65536) × (5 * t + 10 ≤ length (now s)) × (colour < 2) ⌝ }
-    ensures { λ r. ⌜ tablesOf (now (s .exit)) ≡ storeRange colour t (tablesOf (now (s .entry))) ⌝ }
+fn store_range(scratch: &mut [i64], colour: usize, t: usize)
+    requires { ⌜ (0 < t) × (t < 65536) × (5 * t + 10 ≤ length (now scratch)) × (colour < 2) ⌝ }
+    ensures { λ r. ⌜ tablesOf (now (scratch .exit)) ≡ storeRange colour t (tablesOf (now (scratch .entry))) ⌝ }
 {
-    let w = walk_at(s, t);
-    let r = with_range(s, colour, w);
-    set_op(s, 3 * t, r);
+    let w = walk_at(scratch, t);
+    let r = with_range(scratch, colour, w);
+    set_op(scratch, 3 * t, r);
 }
 
-fn store_ranges(n: usize, s: &mut [i64], colour: usize)
-    requires { ⌜ PassPre n (length (now s)) (tablesOf (now s)) × (colour < 2) ⌝ }
-    ensures { λ r. ⌜ tablesOf (now (s .exit)) ≡ upward (storeRange colour) (2 * n - 4) (tablesOf (now (s .entry))) ⌝ }
+fn store_ranges(n: usize, scratch: &mut [i64], colour: usize)
+    requires { ⌜ PassPre n (length (now scratch)) (tablesOf (now scratch)) × (colour < 2) ⌝ }
+    ensures { λ r. ⌜ tablesOf (now (scratch .exit)) ≡ upward (storeRange colour) (2 * n - 4) (tablesOf (now (scratch .entry))) ⌝ }
 {
     let mut t = 1;
     while t < 2 * n - 4 {
-        store_range(s, colour, t);
+        store_range(scratch, colour, t);
         t += 1;
     }
 }
@@ -155,76 +176,76 @@ fn clamp_index(n: usize, i: usize) -> usize
     0
 }
 
-fn store_entry(s: &mut [i64], colour: usize, i: usize, x: usize)
-    requires { ⌜ (10 * i + 10 ≤ length (now s)) × (i < 65536) × (x < 65536) ⌝ }
-    ensures { λ r. ⌜ tablesOf (now (s .exit)) ≡ storeEntry colour i x (tablesOf (now (s .entry))) ⌝ }
+fn store_entry(scratch: &mut [i64], colour: usize, i: usize, x: usize)
+    requires { ⌜ (10 * i + 10 ≤ length (now scratch)) × (i < 65536) × (x < 65536) ⌝ }
+    ensures { λ r. ⌜ tablesOf (now (scratch .exit)) ≡ storeEntry colour i x (tablesOf (now (scratch .entry))) ⌝ }
 {
     if colour == 0 {
-        set_count(s, i, x);
+        set_count(scratch, i, x);
         return;
     }
-    set_mark(s, 2 * i, x);
+    set_mark(scratch, 2 * i, x);
 }
 
 // the k-th vertex that left, at its place
-fn store_vertex(n: usize, s: &mut [i64], colour: usize, k: usize)
-    requires { ⌜ (k < 65536) × (0 < n) × (n < 65536) × (10 * n ≤ length (now s)) ⌝ }
-    ensures { λ r. ⌜ tablesOf (now (s .exit)) ≡ storeVertex n colour k (tablesOf (now (s .entry))) ⌝ }
+fn store_vertex(n: usize, scratch: &mut [i64], colour: usize, k: usize)
+    requires { ⌜ (k < 65536) × (0 < n) × (n < 65536) × (10 * n ≤ length (now scratch)) ⌝ }
+    ensures { λ r. ⌜ tablesOf (now (scratch .exit)) ≡ storeVertex n colour k (tablesOf (now (scratch .entry))) ⌝ }
 {
-    let v = field0(get_mark(s, 2 * k + 1));
-    let i = clamp_index(n, saturating_sub(get_head(s, v), 1));
-    store_entry(s, colour, i, v);
+    let v = field0(removed_at(scratch, k));
+    let i = clamp_index(n, saturating_sub(range_end(scratch, v), 1));
+    store_entry(scratch, colour, i, v);
 }
 
-fn store_vertices(n: usize, s: &mut [i64], colour: usize)
-    requires { ⌜ PassPre n (length (now s)) (tablesOf (now s)) ⌝ }
-    ensures { λ r. ⌜ tablesOf (now (s .exit)) ≡ upward (storeVertex n colour) (n - 2) (tablesOf (now (s .entry))) ⌝ }
+fn store_vertices(n: usize, scratch: &mut [i64], colour: usize)
+    requires { ⌜ PassPre n (length (now scratch)) (tablesOf (now scratch)) ⌝ }
+    ensures { λ r. ⌜ tablesOf (now (scratch .exit)) ≡ upward (storeVertex n colour) (n - 2) (tablesOf (now (scratch .entry))) ⌝ }
 {
     let mut k = 0;
     while k < n - 2 {
-        store_vertex(n, s, colour, k);
+        store_vertex(n, scratch, colour, k);
         k += 1;
     }
 }
 
 // the sizes of the subtrees of a colour
-fn compute_sizes(n: usize, s: &mut [i64], colour: usize)
-    requires { ⌜ PassPre n (length (now s)) (tablesOf (now s)) ⌝ }
-    ensures { λ r. ⌜ tablesOf (now (s .exit)) ≡ sizesComputed n colour (tablesOf (now (s .entry))) ⌝ }
+fn compute_sizes(n: usize, scratch: &mut [i64], colour: usize)
+    requires { ⌜ PassPre n (length (now scratch)) (tablesOf (now scratch)) ⌝ }
+    ensures { λ r. ⌜ tablesOf (now (scratch .exit)) ≡ sizesComputed n colour (tablesOf (now (scratch .entry))) ⌝ }
 {
-    init_sizes(n, s);
-    accumulate_sizes(n, s, colour);
+    init_sizes(n, scratch);
+    accumulate_sizes(n, scratch, colour);
 }
 
 // their places: the root has all of the row
-fn compute_positions(n: usize, s: &mut [i64], colour: usize, root: usize)
-    requires { ⌜ PassPre n (length (now s)) (tablesOf (now s)) × (root < n) ⌝ }
-    ensures { λ r. ⌜ tablesOf (now (s .exit)) ≡ positionsComputed n colour root (tablesOf (now (s .entry))) ⌝ }
+fn compute_positions(n: usize, scratch: &mut [i64], colour: usize, root: usize)
+    requires { ⌜ PassPre n (length (now scratch)) (tablesOf (now scratch)) × (root < n) ⌝ }
+    ensures { λ r. ⌜ tablesOf (now (scratch .exit)) ≡ positionsComputed n colour root (tablesOf (now (scratch .entry))) ⌝ }
 {
-    let z = get_mark(s, 2 * root);
-    set_head(s, root, z);
-    allocate_ranges(n, s, colour);
+    let size = subtree_size(scratch, root);
+    set_range_end(scratch, root, size);
+    allocate_ranges(n, scratch, colour);
 }
 
 // the row of a colour
-fn build_preorder(n: usize, s: &mut [i64], colour: usize, root: usize)
-    requires { ⌜ PassPre n (length (now s)) (tablesOf (now s)) × (colour < 2) × (root < n) ⌝ }
-    ensures { λ r. ⌜ tablesOf (now (s .exit)) ≡ preorderBuilt n colour root (tablesOf (now (s .entry))) ⌝ }
+fn build_preorder(n: usize, scratch: &mut [i64], colour: usize, root: usize)
+    requires { ⌜ PassPre n (length (now scratch)) (tablesOf (now scratch)) × (colour < 2) × (root < n) ⌝ }
+    ensures { λ r. ⌜ tablesOf (now (scratch .exit)) ≡ preorderBuilt n colour root (tablesOf (now (scratch .entry))) ⌝ }
 {
-    compute_sizes(n, s, colour);
-    compute_positions(n, s, colour, root);
-    store_ranges(n, s, colour);
-    store_vertices(n, s, colour);
+    compute_sizes(n, scratch, colour);
+    compute_positions(n, scratch, colour, root);
+    store_ranges(n, scratch, colour);
+    store_vertices(n, scratch, colour);
 }
 
 // The rows of both colours. Where the words were laid out over the tables T, and the paths in T lead to v0 and v1, their subtrees stand in the rows.
-pub fn build_preorders(n: usize, triangles: &[u16], s: &mut [i64])
-    requires { ⌜ PreorderPre n (now triangles) (now s) ⌝ }
-    ensures { λ r. ⌜ ((T : Tables) → Packed n (now (triangles .entry)) T (tablesOf (now (s .entry))) → WalksPacked n T (tablesOf (now (s .entry))) → RootedForest n (now (triangles .entry)) T →
-        Preordered n (now (triangles .entry)) T (tablesOf (now (s .exit)))) ⌝ }
+pub fn build_preorders(n: usize, triangles: &[u16], scratch: &mut [i64])
+    requires { ⌜ PreorderPre n (now triangles) (now scratch) ⌝ }
+    ensures { λ r. ⌜ ((T : Tables) → Packed n (now (triangles .entry)) T (tablesOf (now (scratch .entry))) → WalksPacked n T (tablesOf (now (scratch .entry))) → RootedForest n (now (triangles .entry)) T →
+        Preordered n (now (triangles .entry)) T (tablesOf (now (scratch .exit)))) ⌝ }
 {
     let v0 = origin(triangles, 0);
-    build_preorder(n, s, 0, v0);
+    build_preorder(n, scratch, 0, v0);
     let v1 = origin(triangles, 2);
-    build_preorder(n, s, 1, v1);
+    build_preorder(n, scratch, 1, v1);
 }

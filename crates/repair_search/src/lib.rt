@@ -17,32 +17,32 @@ ghost use Rattle.repair_model.specs.Search.{badAt, raiseAt, nextOn, Found, Next
 ghost use Rattle.repair_search.specs.SearchLoops.{Lower, Lowest};
 
 // triangle t is flat or turned
-fn is_bad(s: &[i64], coordinates: &[i64], t: usize) -> bool
+fn is_bad(coordinates: &[i64], scratch: &[i64], t: usize) -> bool
     requires { ⌜ (t < 65536) × (row10 (now coordinates) ≡ false) ⌝ }
-    ensures { λ x. ⌜ x ≡ badAt (tablesOf (now (s .entry))) (now (coordinates .entry)) t ⌝ }
+    ensures { λ x. ⌜ x ≡ badAt (tablesOf (now (scratch .entry))) (now (coordinates .entry)) t ⌝ }
 {
-    let w = corners_at(s, t);
+    let w = corners_at(scratch, t);
     repair_area::bad_at(coordinates, field0(w), field1(w), field2(w))
 }
 
 // what it is to be raised by
-pub fn raise_at(s: &[i64], coordinates: &[i64], t: usize) -> i64
+pub fn raise_at(coordinates: &[i64], scratch: &[i64], t: usize) -> i64
     requires { ⌜ (t < 65536) × (row10 (now coordinates) ≡ false) ⌝ }
-    ensures is { λ x. ⌜ x ≡ raiseAt (tablesOf (now (s .entry))) (now (coordinates .entry)) t ⌝ }
+    ensures is { λ x. ⌜ x ≡ raiseAt (tablesOf (now (scratch .entry))) (now (coordinates .entry)) t ⌝ }
     ensures small { λ x. ⌜ natAbs x ≤ 4 * limit + 1 ⌝ }
 {
-    let w = corners_at(s, t);
+    let w = corners_at(scratch, t);
     repair_area::raise_of(coordinates, field0(w), field1(w), field2(w))
 }
 
 // the first bad triangle from `from` on, or `to`
-pub fn first_bad(s: &[i64], coordinates: &[i64], from: usize, to: usize) -> usize
+pub fn first_bad(coordinates: &[i64], scratch: &[i64], from: usize, to: usize) -> usize
     requires { ⌜ (from ≤ to) × (to < 65536) × (row10 (now coordinates) ≡ false) ⌝ }
-    ensures { λ r. ⌜ Found (badAt (tablesOf (now (s .entry))) (now (coordinates .entry))) from to r ⌝ }
+    ensures { λ r. ⌜ Found (badAt (tablesOf (now (scratch .entry))) (now (coordinates .entry))) from to r ⌝ }
 {
     let mut i = from;
     while i < to {
-        if is_bad(s, coordinates, i) {
+        if is_bad(coordinates, scratch, i) {
             return i;
         }
         i += 1;
@@ -51,18 +51,18 @@ pub fn first_bad(s: &[i64], coordinates: &[i64], from: usize, to: usize) -> usiz
 }
 
 // the next triangle on the walk of colour c; a walk that has come to the outer triangle stays there
-fn next_on_walk(s: &[i64], c: usize, t: usize) -> usize
+fn next_on_walk(scratch: &[i64], c: usize, t: usize) -> usize
     requires { ⌜ t < 65536 ⌝ }
-    ensures is { λ r. ⌜ r ≡ nextOn (tablesOf (now (s .entry))) c t ⌝ }
+    ensures is { λ r. ⌜ r ≡ nextOn (tablesOf (now (scratch .entry))) c t ⌝ }
     ensures small { λ r. ⌜ r < 65536 ⌝ }
 {
     if t == 0 {
         return 0;
     }
     if c == 2 {
-        return field0(walk_at(s, t));
+        return field0(walk_at(scratch, t));
     }
-    let w = other_walks_at(s, t);
+    let w = other_walks_at(scratch, t);
     if c == 0 {
         return field0(w);
     }
@@ -71,9 +71,16 @@ fn next_on_walk(s: &[i64], c: usize, t: usize) -> usize
 
 // i, if it is bad, not below `full`, and below `low`; `low`, if not. `full` and `top`, which stay as they are during a search, tell most of them apart without
 // waiting for `low`.
-fn lower_bad(s: &[i64], coordinates: &[i64], full: usize, top: usize, i: usize, low: usize) -> usize
+fn lower_bad(
+    coordinates: &[i64],
+    scratch: &[i64],
+    full: usize,
+    top: usize,
+    i: usize,
+    low: usize,
+) -> usize
     requires { ⌜ (i < 65536) × (low ≤ top) × (row10 (now coordinates) ≡ false) ⌝ }
-    ensures { λ r. ⌜ Lower (badAt (tablesOf (now (s .entry))) (now (coordinates .entry))) full i low r ⌝ }
+    ensures { λ r. ⌜ Lower (badAt (tablesOf (now (scratch .entry))) (now (coordinates .entry))) full i low r ⌝ }
 {
     if top <= i {
         return low;
@@ -81,7 +88,7 @@ fn lower_bad(s: &[i64], coordinates: &[i64], full: usize, top: usize, i: usize, 
     if i < full {
         return low;
     }
-    if is_bad(s, coordinates, i) {
+    if is_bad(coordinates, scratch, i) {
         if i < low {
             return i;
         }
@@ -92,9 +99,15 @@ fn lower_bad(s: &[i64], coordinates: &[i64], full: usize, top: usize, i: usize, 
 
 // the lowest-numbered bad triangle on the three walks from t on, not below `full`; t, if there is none below it. The walks are followed together, and the reads
 // for the next step come first, for a step waits only for the one before it on the same walk.
-fn lowest_on_walks(s: &[i64], coordinates: &[i64], steps: usize, full: usize, t: usize) -> usize
+fn lowest_on_walks(
+    coordinates: &[i64],
+    scratch: &[i64],
+    steps: usize,
+    full: usize,
+    t: usize,
+) -> usize
     requires { ⌜ (t < 65536) × (row10 (now coordinates) ≡ false) ⌝ }
-    ensures { λ r. ⌜ Lowest (tablesOf (now (s .entry))) (badAt (tablesOf (now (s .entry))) (now (coordinates .entry))) steps full t r ⌝ }
+    ensures { λ r. ⌜ Lowest (tablesOf (now (scratch .entry))) (badAt (tablesOf (now (scratch .entry))) (now (coordinates .entry))) steps full t r ⌝ }
 {
     if full == t {
         return t;
@@ -108,12 +121,12 @@ fn lowest_on_walks(s: &[i64], coordinates: &[i64], steps: usize, full: usize, t:
         if a + b + d == 0 {
             return r;
         }
-        let next_a = next_on_walk(s, 0, a);
-        let next_b = next_on_walk(s, 1, b);
-        let next_d = next_on_walk(s, 2, d);
-        r = lower_bad(s, coordinates, full, t, a, r);
-        r = lower_bad(s, coordinates, full, t, b, r);
-        r = lower_bad(s, coordinates, full, t, d, r);
+        let next_a = next_on_walk(scratch, 0, a);
+        let next_b = next_on_walk(scratch, 1, b);
+        let next_d = next_on_walk(scratch, 2, d);
+        r = lower_bad(coordinates, scratch, full, t, a, r);
+        r = lower_bad(coordinates, scratch, full, t, b, r);
+        r = lower_bad(coordinates, scratch, full, t, d, r);
         a = next_a;
         b = next_b;
         d = next_d;
@@ -123,10 +136,10 @@ fn lowest_on_walks(s: &[i64], coordinates: &[i64], steps: usize, full: usize, t:
 }
 
 // the first bad triangle after a raise of t, below which none was bad; `to`, if there is none. Those below `full` are not looked at. There are `to` triangles.
-pub fn next_bad(s: &[i64], coordinates: &[i64], full: usize, t: usize, to: usize) -> usize
+pub fn next_bad(coordinates: &[i64], scratch: &[i64], full: usize, t: usize, to: usize) -> usize
     requires { ⌜ (full ≤ t) × (t ≤ to) × (to < 65536) × (row10 (now coordinates) ≡ false) ⌝ }
-    ensures { λ r. ⌜ Next (tablesOf (now (s .entry))) (now (coordinates .entry)) full t to r ⌝ }
+    ensures { λ r. ⌜ Next (tablesOf (now (scratch .entry))) (now (coordinates .entry)) full t to r ⌝ }
 {
-    let low = lowest_on_walks(s, coordinates, to, full, t);
-    first_bad(s, coordinates, low, to)
+    let low = lowest_on_walks(coordinates, scratch, to, full, t);
+    first_bad(coordinates, scratch, low, to)
 }

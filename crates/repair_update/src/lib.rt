@@ -25,35 +25,35 @@ pub fn add_at(numbers: &mut [i64], i: usize, x: i64)
 }
 
 // x more in coordinate c of each vertex that stands at the places from a to before `end`
-fn add_to_range(s: &[i64], coordinates: &mut [i64], a: usize, end: usize, c: usize, x: i64)
-    requires { ⌜ Rowable (now s) (now coordinates) a end c x ⌝ }
-    ensures more { λ r. ⌜ More (along (wordAt (now (s .entry))) a (end - a) c) x (now (coordinates .entry)) (now (coordinates .exit)) ⌝ }
+fn add_to_range(coordinates: &mut [i64], scratch: &[i64], a: usize, end: usize, c: usize, x: i64)
+    requires { ⌜ Rowable (now scratch) (now coordinates) a end c x ⌝ }
+    ensures more { λ r. ⌜ More (along (wordAt (now (scratch .entry))) a (end - a) c) x (now (coordinates .entry)) (now (coordinates .exit)) ⌝ }
     ensures small { λ r. ⌜ ((k : ℕ) → Small k (now (coordinates .entry)) → Small (k + (end - a)) (now (coordinates .exit))) ⌝ }
 {
     let mut p = a;
     while p < end {
-        let v = scratch_tables::load(s, p);
+        let v = scratch_tables::load(scratch, p);
         add_at(coordinates, 3 * v + c, x);
         p += 1;
     }
 }
 
 // where the row of the flag f begins
-fn preorder_start(s: &[i64], f: usize) -> usize
-    ensures is { λ r. ⌜ r ≡ rowAt (length (now (s .entry))) f ⌝ }
-    ensures small { λ r. ⌜ r ≤ length (now (s .entry)) ⌝ }
+fn preorder_start(scratch: &[i64], f: usize) -> usize
+    ensures is { λ r. ⌜ r ≡ rowAt (length (now (scratch .entry))) f ⌝ }
+    ensures small { λ r. ⌜ r ≤ length (now (scratch .entry)) ⌝ }
 {
     if f == 1 {
-        scratch_tables::count_start(s)
+        scratch_tables::count_start(scratch)
     } else {
-        scratch_tables::mark_start(s)
+        scratch_tables::mark_start(scratch)
     }
 }
 
 // The subtree that the word w names, if it names one. Both colours go one way, so that nothing is guessed by the flag.
-fn add_to_subtree(s: &[i64], coordinates: &mut [i64], w: usize, x: i64)
-    requires { ⌜ Movable (now s) (now coordinates) w x ⌝ }
-    ensures { λ r. ⌜ Followed (now (s .entry)) w x (now (coordinates .entry)) (now (coordinates .exit)) ⌝ }
+fn add_to_subtree(coordinates: &mut [i64], scratch: &[i64], w: usize, x: i64)
+    requires { ⌜ Movable (now scratch) (now coordinates) w x ⌝ }
+    ensures { λ r. ⌜ Followed (now (scratch .entry)) w x (now (coordinates .entry)) (now (coordinates .exit)) ⌝ }
 {
     let f = field3(w);
     if f == 0 {
@@ -62,25 +62,25 @@ fn add_to_subtree(s: &[i64], coordinates: &mut [i64], w: usize, x: i64)
     if f > 2 {
         return;
     }
-    let a = preorder_start(s, f) + field1(w);
-    add_to_range(s, coordinates, a, a + field2(w), 2 - f, x);
+    let a = preorder_start(scratch, f) + field1(w);
+    add_to_range(coordinates, scratch, a, a + field2(w), 2 - f, x);
 }
 
 // one step of the walk, to the next triangle
-fn step(s: &[i64], coordinates: &mut [i64], t: usize, x: i64) -> usize
-    requires { ⌜ (t < 65536) × Movable (now s) (now coordinates) (tablesOf (now s) .op (3 * t)) x ⌝ }
-    ensures next { λ r. ⌜ r ≡ field0 (tablesOf (now (s .entry)) .op (3 * t)) ⌝ }
-    ensures moved { λ r. ⌜ Followed (now (s .entry)) (tablesOf (now (s .entry)) .op (3 * t)) x (now (coordinates .entry)) (now (coordinates .exit)) ⌝ }
+fn step(coordinates: &mut [i64], scratch: &[i64], t: usize, x: i64) -> usize
+    requires { ⌜ (t < 65536) × Movable (now scratch) (now coordinates) (tablesOf (now scratch) .op (3 * t)) x ⌝ }
+    ensures next { λ r. ⌜ r ≡ field0 (tablesOf (now (scratch .entry)) .op (3 * t)) ⌝ }
+    ensures moved { λ r. ⌜ Followed (now (scratch .entry)) (tablesOf (now (scratch .entry)) .op (3 * t)) x (now (coordinates .entry)) (now (coordinates .exit)) ⌝ }
 {
-    let w = walk_at(s, t);
-    add_to_subtree(s, coordinates, w, x);
+    let w = walk_at(scratch, t);
+    add_to_subtree(coordinates, scratch, w, x);
     field0(w)
 }
 
 // the walk of triangle t, in `steps` steps at most
-fn walk(s: &[i64], coordinates: &mut [i64], steps: usize, t: usize, x: i64)
-    requires { ⌜ Walkable (now s) (now coordinates) steps t x ⌝ }
-    ensures { λ r. ⌜ Walked (now (s .entry)) steps t x (now (coordinates .entry)) (now (coordinates .exit)) ⌝ }
+fn walk(coordinates: &mut [i64], scratch: &[i64], steps: usize, t: usize, x: i64)
+    requires { ⌜ Walkable (now scratch) (now coordinates) steps t x ⌝ }
+    ensures { λ r. ⌜ Walked (now (scratch .entry)) steps t x (now (coordinates .entry)) (now (coordinates .exit)) ⌝ }
 {
     let mut k = steps;
     let mut at = t;
@@ -88,17 +88,24 @@ fn walk(s: &[i64], coordinates: &mut [i64], steps: usize, t: usize, x: i64)
         if at == 0 {
             return;
         }
-        at = step(s, coordinates, at, x);
+        at = step(coordinates, scratch, at, x);
         k -= 1;
     }
 }
 
 // x more in the coordinates of which the weight of triangle t is part, but for coordinate 2
-pub fn add_raise(n: usize, triangles: &[u16], s: &[i64], coordinates: &mut [i64], t: usize, x: i64)
-    requires { ⌜ UpdatePre n (now triangles) (now s) (now coordinates) t x ⌝ }
-    ensures { λ r. ⌜ WalkMoved n (now (triangles .entry)) (tablesOf (now (s .entry))) t x (now (coordinates .entry)) (now (coordinates .exit)) ⌝ }
+pub fn add_raise(
+    n: usize,
+    triangles: &[u16],
+    coordinates: &mut [i64],
+    scratch: &[i64],
+    t: usize,
+    x: i64,
+)
+    requires { ⌜ UpdatePre n (now triangles) (now scratch) (now coordinates) t x ⌝ }
+    ensures { λ r. ⌜ WalkMoved n (now (triangles .entry)) (tablesOf (now (scratch .entry))) t x (now (coordinates .entry)) (now (coordinates .exit)) ⌝ }
 {
-    walk(s, coordinates, 2 * n - 4, t, x);
+    walk(coordinates, scratch, 2 * n - 4, t, x);
     let v0 = origin(triangles, 0);
     add_at(coordinates, 3 * v0, x);
     let v1 = origin(triangles, 2);

@@ -13,26 +13,11 @@ use borrow.Author.Tests.{eq-eqb, ne-eqb}
 use Rattle.definitions.specs.Mesh.{tri, next, prev, org, tip}
 use Rattle.laws.specs.Lists.{tested}
 use Rattle.scratch_tables.specs.Tables.{Tables, tablesOf, setHead, setCount, setOp, setMark, upd-at, upd-other}
-use Rattle.labels_tables.specs.LabelledTables.{oppositeIn, labelIn}
-use Rattle.repair_model.specs.PackedWords.{pack, apexCorner, walkDart, withRim, endFlags, walkWord, cornerWord, removedWord, otherWalksWord, Packed}
+use Rattle.labels_tables.specs.LabelledTables.{oppositeIn, labelIn, apexDart}
+use Rattle.repair_model.specs.PackedWords.{pack, walkDart, withRim, endFlags, walkWord, cornerWord, removedWord, otherWalksWord, Packed}
 use Rattle.repair_model.specs.PackedWords.{WalksPacked}
 
--- ---- the corner with label 2
-
-module _ (w : ℕ → ℕ) (t a b : ℕ) (ea : a ≡ labelIn w (3 * t)) (eb : b ≡ labelIn w (3 * t + 1)) where
-  pub apex-0 : a ≡ 2 → 3 * t ≡ apexCorner w t
-  unfolding apexCorner
-  apex-0 h = rw (eq-eqb (labelIn w (3 * t)) 2 (sym ea ∙ h))
-
-  pub apex-1 : a ≢ 2 → b ≡ 2 → 3 * t + 1 ≡ apexCorner w t
-  unfolding apexCorner
-  apex-1 h k = rw (ne-eqb (labelIn w (3 * t)) 2 (λ e. h (ea ∙ e)), eq-eqb (labelIn w (3 * t + 1)) 2 (sym eb ∙ k))
-
-  pub apex-2 : a ≢ 2 → b ≢ 2 → 3 * t + 2 ≡ apexCorner w t
-  unfolding apexCorner
-  apex-2 h k = rw (ne-eqb (labelIn w (3 * t)) 2 (λ e. h (ea ∙ e)), ne-eqb (labelIn w (3 * t + 1)) 2 (λ e. k (eb ∙ e)))
-
-pub way-is : (w : ℕ → ℕ) (t g g′ r : ℕ) → g ≡ apexCorner w t → g′ ≡ next g → r ≡ oppositeIn w g′ → r ≡ walkDart w t
+pub way-is : (w : ℕ → ℕ) (t g g′ r : ℕ) → g ≡ apexDart w t → g′ ≡ next g → r ≡ oppositeIn w g′ → r ≡ walkDart w t
 unfolding walkDart
 way-is w t g g′ r eg en er = rw (er, en, eg)
 
@@ -73,7 +58,7 @@ pub way-word-is : (ts : List ℕ) (T : Tables) (t o a b f r : ℕ) → o ≡ wal
 unfolding walkWord tri
 way-word-is ts T t o a b f r eo ea eb ef er = rw (er, ef, ea, eb, eo)
 
-pub corner-word-is : (ts : List ℕ) (T : Tables) (t g a p b q r w : ℕ) → g ≡ apexCorner (T .op) t → a ≡ next g → p ≡ org ts a → b ≡ prev g
+pub corner-word-is : (ts : List ℕ) (T : Tables) (t g a p b q r w : ℕ) → g ≡ apexDart (T .op) t → a ≡ next g → p ≡ org ts a → b ≡ prev g
     → q ≡ org ts b → r ≡ org ts g →
     w ≡ pack p q r 0 → w ≡ cornerWord ts T t
 unfolding cornerWord
@@ -85,7 +70,7 @@ pub removed-word-is : (ts : List ℕ) (T : Tables) (k v e a f b w : ℕ) → v �
 unfolding removedWord
 removed-word-is ts T k v e a f b w ev ee ea ef eb ew = rw (ew, ea, ee, eb, ef, ev)
 
-pub line-word-is : (T : Tables) (t g d a b w : ℕ) → g ≡ apexCorner (T .op) t → d ≡ prev g → a ≡ oppositeIn (T .op) d →
+pub line-word-is : (T : Tables) (t g d a b w : ℕ) → g ≡ apexDart (T .op) t → d ≡ prev g → a ≡ oppositeIn (T .op) d →
     b ≡ oppositeIn (T .op) g → w ≡ pack (a / 3) (b / 3) 0 0 →
     w ≡ otherWalksWord T t
 unfolding otherWalksWord tri
@@ -155,8 +140,8 @@ walks-none n ts T =
     }
 
 -- the corner is one of its triangle
-apex-tri : (w : ℕ → ℕ) (t : ℕ) → tri (apexCorner w t) ≡ t
-unfolding apexCorner tri
+apex-tri : (w : ℕ → ℕ) (t : ℕ) → tri (apexDart w t) ≡ t
+unfolding apexDart tri
 apex-tri w t =
     elim (tested (eqb (labelIn w (3 * t)) 2)) [
       | inl e ↦ rw e (omega arith)
@@ -166,17 +151,17 @@ apex-tri w t =
 -- the words of triangle t are made from its own darts
 module _ (ts : List ℕ) (T S : Tables) (t : ℕ) (rest : (d : ℕ) → 3 * t ≤ d → S .op d ≡ T .op d) (head : S .head ≡ T .head)
     (count : S .count ≡ T .count) where
-  same-apex : apexCorner (S .op) t ≡ apexCorner (T .op) t
-  unfolding apexCorner labelIn
+  same-apex : apexDart (S .op) t ≡ apexDart (T .op) t
+  unfolding apexDart labelIn
   same-apex = rw (rest (3 * t) (omega arith), rest (3 * t + 1) (omega arith))
 
-  apex-least : (3 * t ≤ apexCorner (T .op) t) × (3 * t ≤ next (apexCorner (T .op) t)) × (3 * t ≤ prev (apexCorner (T .op) t))
+  apex-least : (3 * t ≤ apexDart (T .op) t) × (3 * t ≤ next (apexDart (T .op) t)) × (3 * t ≤ prev (apexDart (T .op) t))
   unfolding tri next prev
   apex-least = omega (arith, apex-tri (T .op) t)
 
   same-into : walkDart (S .op) t ≡ walkDart (T .op) t
   unfolding walkDart oppositeIn
-  same-into = rw (same-apex, rest (next (apexCorner (T .op) t)) (apex-least .1))
+  same-into = rw (same-apex, rest (next (apexDart (T .op) t)) (apex-least .1))
 
   same-way : walkWord ts S t ≡ walkWord ts T t
   unfolding walkWord endFlags
@@ -188,7 +173,7 @@ module _ (ts : List ℕ) (T S : Tables) (t : ℕ) (rest : (d : ℕ) → 3 * t �
 
   same-otherWalks : otherWalksWord S t ≡ otherWalksWord T t
   unfolding otherWalksWord oppositeIn
-  same-otherWalks = let g = apexCorner (T .op) t in rw (same-apex, rest g (apex-least .0), rest (prev g) (apex-least .2))
+  same-otherWalks = let g = apexDart (T .op) t in rw (same-apex, rest g (apex-least .0), rest (prev g) (apex-least .2))
 
 module _ (n : ℕ) (ts : List ℕ) (T S : Tables) (t : ℕ) (W : TrianglesPacked n ts T S t) where
   pub walks-next : (S′ : Tables) → S′ ≡ setWords ts t S → TrianglesPacked n ts T S′ (t + 1)

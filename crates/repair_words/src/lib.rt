@@ -15,7 +15,7 @@ ghost use Prim.Native.Nat.{_+_, _-_, _*_, _<_, _≤_, _^_};
 ghost use lib.ListN.{length};
 ghost use Rattle.definitions.specs.Mesh.{org};
 ghost use Rattle.scratch_tables.specs.Tables.{vertexIn, tablesOf, setMark};
-ghost use Rattle.repair_model.specs.PackedWords.{pack, field0, field1, field2, field3, apexCorner, walkDart, withRim, endFlags, walkWord, cornerWord, removedWord, otherWalksWord, Packed, WalksPacked};
+ghost use Rattle.repair_model.specs.PackedWords.{pack, field0, field1, field2, field3, walkDart, withRim, endFlags, walkWord, cornerWord, removedWord, otherWalksWord, Packed, WalksPacked};
 ghost use Rattle.repair_words.specs.LoopInvariants.{setWords, PackPre, TrianglesPacked, RemovedPacked};
 
 // the parts of a word
@@ -56,64 +56,56 @@ pub fn pack(a: usize, b: usize, c: usize, d: usize) -> usize
 }
 
 // the words of triangle t: where its colour-2 walk goes, its corners, and where its other walks go
-pub fn walk_at(s: &[i64], t: usize) -> usize
+pub fn walk_at(scratch: &[i64], t: usize) -> usize
     requires { ⌜ t < 65536 ⌝ }
-    ensures is { λ r. ⌜ r ≡ tablesOf (now (s .entry)) .op (3 * t) ⌝ }
+    ensures is { λ r. ⌜ r ≡ tablesOf (now (scratch .entry)) .op (3 * t) ⌝ }
     ensures small { λ r. ⌜ r < 2 ^ 63 ⌝ }
 {
-    scratch_tables::get_op(s, 3 * t)
+    scratch_tables::get_op(scratch, 3 * t)
 }
 
-pub fn corners_at(s: &[i64], t: usize) -> usize
+pub fn corners_at(scratch: &[i64], t: usize) -> usize
     requires { ⌜ t < 65536 ⌝ }
-    ensures is { λ r. ⌜ r ≡ tablesOf (now (s .entry)) .op (3 * t + 1) ⌝ }
+    ensures is { λ r. ⌜ r ≡ tablesOf (now (scratch .entry)) .op (3 * t + 1) ⌝ }
     ensures small { λ r. ⌜ r < 2 ^ 63 ⌝ }
 {
-    scratch_tables::get_op(s, 3 * t + 1)
+    scratch_tables::get_op(scratch, 3 * t + 1)
 }
 
-pub fn other_walks_at(s: &[i64], t: usize) -> usize
+pub fn other_walks_at(scratch: &[i64], t: usize) -> usize
     requires { ⌜ t < 65536 ⌝ }
-    ensures is { λ r. ⌜ r ≡ tablesOf (now (s .entry)) .op (3 * t + 2) ⌝ }
+    ensures is { λ r. ⌜ r ≡ tablesOf (now (scratch .entry)) .op (3 * t + 2) ⌝ }
     ensures small { λ r. ⌜ r < 2 ^ 63 ⌝ }
 {
-    scratch_tables::get_op(s, 3 * t + 2)
+    scratch_tables::get_op(scratch, 3 * t + 2)
 }
 
-// the corner of triangle t with label 2
-fn apex_corner(s: &[i64], t: usize) -> usize
-    requires { ⌜ t < 65536 ⌝ }
-    ensures is { λ r. ⌜ r ≡ apexCorner (tablesOf (now (s .entry)) .op) t ⌝ }
-    ensures small { λ r. ⌜ r < 3 * t + 3 ⌝ }
+// the word of the k-th vertex that left
+pub fn removed_at(scratch: &[i64], k: usize) -> usize
+    requires { ⌜ k < 65536 ⌝ }
+    ensures is { λ r. ⌜ r ≡ tablesOf (now (scratch .entry)) .mark (2 * k + 1) ⌝ }
+    ensures small { λ r. ⌜ r < 2 ^ 63 ⌝ }
 {
-    let a = labels_tables::label_of(s, 3 * t);
-    if a == 2 {
-        return 3 * t;
-    }
-    let b = labels_tables::label_of(s, 3 * t + 1);
-    if b == 2 {
-        return 3 * t + 1;
-    }
-    3 * t + 2
+    scratch_tables::get_mark(scratch, 2 * k + 1)
 }
 
 // the dart by which the walk comes from triangle t into the next one
-fn walk_dart(s: &[i64], t: usize) -> usize
+fn walk_dart(scratch: &[i64], t: usize) -> usize
     requires { ⌜ t < 65536 ⌝ }
-    ensures is { λ r. ⌜ r ≡ walkDart (tablesOf (now (s .entry)) .op) t ⌝ }
+    ensures is { λ r. ⌜ r ≡ walkDart (tablesOf (now (scratch .entry)) .op) t ⌝ }
     ensures small { λ r. ⌜ r < 65536 ⌝ }
 {
-    let g = apex_corner(s, t);
-    labels_tables::opposite(s, next_dart(g))
+    let g = labels_tables::apex_dart(scratch, t);
+    labels_tables::opposite(scratch, next_dart(g))
 }
 
 // 1 if o, from a to b, is the dart to the left of a; and 2 if it is the dart from the right of b
-fn end_flags(s: &[i64], o: usize, a: usize, b: usize) -> usize
-    ensures is { λ r. ⌜ r ≡ endFlags (tablesOf (now (s .entry))) o a b ⌝ }
+fn end_flags(scratch: &[i64], o: usize, a: usize, b: usize) -> usize
+    ensures is { λ r. ⌜ r ≡ endFlags (tablesOf (now (scratch .entry))) o a b ⌝ }
     ensures small { λ r. ⌜ r < 4 ⌝ }
 {
-    let e = left_dart(s, a);
-    let f = right_dart(s, b);
+    let e = left_dart(scratch, a);
+    let f = right_dart(scratch, b);
     if e == o {
         if f == o {
             return 3;
@@ -126,112 +118,112 @@ fn end_flags(s: &[i64], o: usize, a: usize, b: usize) -> usize
     0
 }
 
-fn walk_word(triangles: &[u16], s: &[i64], t: usize) -> usize
+fn walk_word(triangles: &[u16], scratch: &[i64], t: usize) -> usize
     requires { ⌜ t < 65536 ⌝ }
-    ensures is { λ r. ⌜ r ≡ walkWord (now (triangles .entry)) (tablesOf (now (s .entry))) t ⌝ }
+    ensures is { λ r. ⌜ r ≡ walkWord (now (triangles .entry)) (tablesOf (now (scratch .entry))) t ⌝ }
     ensures small { λ r. ⌜ r < 2 ^ 63 ⌝ }
 {
-    let o = walk_dart(s, t);
+    let o = walk_dart(scratch, t);
     let a = origin(triangles, o);
     let b = tip(triangles, o);
-    let f = end_flags(s, o, a, b);
+    let f = end_flags(scratch, o, a, b);
     pack(o / 3, a, b, f)
 }
 
-fn corner_word(triangles: &[u16], s: &[i64], t: usize) -> usize
+fn corner_word(triangles: &[u16], scratch: &[i64], t: usize) -> usize
     requires { ⌜ t < 65536 ⌝ }
-    ensures is { λ r. ⌜ r ≡ cornerWord (now (triangles .entry)) (tablesOf (now (s .entry))) t ⌝ }
+    ensures is { λ r. ⌜ r ≡ cornerWord (now (triangles .entry)) (tablesOf (now (scratch .entry))) t ⌝ }
     ensures small { λ r. ⌜ r < 2 ^ 63 ⌝ }
 {
-    let g = apex_corner(s, t);
+    let g = labels_tables::apex_dart(scratch, t);
     let p = origin(triangles, next_dart(g));
     let q = origin(triangles, prev_dart(g));
     let r = origin(triangles, g);
     pack(p, q, r, 0)
 }
 
-fn other_walks_word(s: &[i64], t: usize) -> usize
+fn other_walks_word(scratch: &[i64], t: usize) -> usize
     requires { ⌜ t < 65536 ⌝ }
-    ensures is { λ r. ⌜ r ≡ otherWalksWord (tablesOf (now (s .entry))) t ⌝ }
+    ensures is { λ r. ⌜ r ≡ otherWalksWord (tablesOf (now (scratch .entry))) t ⌝ }
     ensures small { λ r. ⌜ r < 2 ^ 63 ⌝ }
 {
-    let g = apex_corner(s, t);
-    let a = labels_tables::opposite(s, prev_dart(g));
-    let b = labels_tables::opposite(s, g);
+    let g = labels_tables::apex_dart(scratch, t);
+    let a = labels_tables::opposite(scratch, prev_dart(g));
+    let b = labels_tables::opposite(scratch, g);
     pack(a / 3, b / 3, 0, 0)
 }
 
-fn removed_word(triangles: &[u16], s: &[i64], k: usize) -> usize
-    requires { ⌜ (k < 65536) × (tablesOf (now s) .mark (2 * k + 1) < 65536) ⌝ }
-    ensures is { λ r. ⌜ r ≡ removedWord (now (triangles .entry)) (tablesOf (now (s .entry))) k ⌝ }
+fn removed_word(triangles: &[u16], scratch: &[i64], k: usize) -> usize
+    requires { ⌜ (k < 65536) × (tablesOf (now scratch) .mark (2 * k + 1) < 65536) ⌝ }
+    ensures is { λ r. ⌜ r ≡ removedWord (now (triangles .entry)) (tablesOf (now (scratch .entry))) k ⌝ }
     ensures small { λ r. ⌜ r < 2 ^ 63 ⌝ }
 {
-    let v = labels_tables::removed_vertex(s, k);
-    let left = tip(triangles, left_dart(s, v));
-    let right = origin(triangles, right_dart(s, v));
+    let v = labels_tables::removed_vertex(scratch, k);
+    let left = tip(triangles, left_dart(scratch, v));
+    let right = origin(triangles, right_dart(scratch, v));
     pack(v, left, right, 0)
 }
 
 // the three words of triangle t
-fn pack_triangle(triangles: &[u16], s: &mut [i64], t: usize)
-    requires { ⌜ (t < 65536) × (5 * t + 10 ≤ length (now s)) ⌝ }
-    ensures { λ r. ⌜ tablesOf (now (s .exit)) ≡ setWords (now (triangles .entry)) t (tablesOf (now (s .entry))) ⌝ }
+fn pack_triangle(triangles: &[u16], scratch: &mut [i64], t: usize)
+    requires { ⌜ (t < 65536) × (5 * t + 10 ≤ length (now scratch)) ⌝ }
+    ensures { λ r. ⌜ tablesOf (now (scratch .exit)) ≡ setWords (now (triangles .entry)) t (tablesOf (now (scratch .entry))) ⌝ }
 {
-    let w = walk_word(triangles, s, t);
-    let c = corner_word(triangles, s, t);
-    let l = other_walks_word(s, t);
-    set_op(s, 3 * t, w);
-    set_op(s, 3 * t + 1, c);
-    set_op(s, 3 * t + 2, l);
+    let w = walk_word(triangles, scratch, t);
+    let c = corner_word(triangles, scratch, t);
+    let l = other_walks_word(scratch, t);
+    set_op(scratch, 3 * t, w);
+    set_op(scratch, 3 * t + 1, c);
+    set_op(scratch, 3 * t + 2, l);
 }
 
-fn pack_triangles(n: usize, triangles: &[u16], s: &mut [i64])
-    requires { ⌜ PackPre n (now s) ⌝ }
-    ensures { λ r. ⌜ TrianglesPacked n (now (triangles .entry)) (tablesOf (now (s .entry))) (tablesOf (now (s .exit))) (2 * n - 4) ⌝ }
+fn pack_triangles(n: usize, triangles: &[u16], scratch: &mut [i64])
+    requires { ⌜ PackPre n (now scratch) ⌝ }
+    ensures { λ r. ⌜ TrianglesPacked n (now (triangles .entry)) (tablesOf (now (scratch .entry))) (tablesOf (now (scratch .exit))) (2 * n - 4) ⌝ }
 {
     let mut t = 1;
     while t < 2 * n - 4 {
-        pack_triangle(triangles, s, t);
+        pack_triangle(triangles, scratch, t);
         t += 1;
     }
 }
 
 // the word of the k-th vertex that left
-fn pack_removed(triangles: &[u16], s: &mut [i64], k: usize)
-    requires { ⌜ (k < 65536) × (10 * k + 10 ≤ length (now s)) × (tablesOf (now s) .mark (2 * k + 1) < 65536) ⌝ }
-    ensures { λ r. ⌜ tablesOf (now (s .exit)) ≡ setMark (2 * k + 1) (removedWord (now (triangles .entry)) (tablesOf (now (s .entry))) k) (tablesOf (now (s .entry))) ⌝ }
+fn pack_removed(triangles: &[u16], scratch: &mut [i64], k: usize)
+    requires { ⌜ (k < 65536) × (10 * k + 10 ≤ length (now scratch)) × (tablesOf (now scratch) .mark (2 * k + 1) < 65536) ⌝ }
+    ensures { λ r. ⌜ tablesOf (now (scratch .exit)) ≡ setMark (2 * k + 1) (removedWord (now (triangles .entry)) (tablesOf (now (scratch .entry))) k) (tablesOf (now (scratch .entry))) ⌝ }
 {
-    let w = removed_word(triangles, s, k);
-    set_mark(s, 2 * k + 1, w);
+    let w = removed_word(triangles, scratch, k);
+    set_mark(scratch, 2 * k + 1, w);
 }
 
-fn pack_all_removed(n: usize, triangles: &[u16], s: &mut [i64])
-    requires { ⌜ PackPre n (now s) ⌝ }
-    ensures { λ r. ⌜ RemovedPacked n (now (triangles .entry)) (tablesOf (now (s .entry))) (tablesOf (now (s .exit))) (n - 2) ⌝ }
+fn pack_all_removed(n: usize, triangles: &[u16], scratch: &mut [i64])
+    requires { ⌜ PackPre n (now scratch) ⌝ }
+    ensures { λ r. ⌜ RemovedPacked n (now (triangles .entry)) (tablesOf (now (scratch .entry))) (tablesOf (now (scratch .exit))) (n - 2) ⌝ }
 {
     let mut k = 0;
     while k < n - 2 {
-        pack_removed(triangles, s, k);
+        pack_removed(triangles, scratch, k);
         k += 1;
     }
 }
 
 // v0 and v1, which did not leave, get the outer triangle's dart between them
-fn set_rim(triangles: &[u16], s: &mut [i64])
-    requires { ⌜ vertexIn (length (now s)) (org (now triangles) 0) × vertexIn (length (now s)) (org (now triangles) 2) ⌝ }
-    ensures { λ r. ⌜ tablesOf (now (s .exit)) ≡ withRim (now (triangles .entry)) (tablesOf (now (s .entry))) ⌝ }
+fn set_rim(triangles: &[u16], scratch: &mut [i64])
+    requires { ⌜ vertexIn (length (now scratch)) (org (now triangles) 0) × vertexIn (length (now scratch)) (org (now triangles) 2) ⌝ }
+    ensures { λ r. ⌜ tablesOf (now (scratch .exit)) ≡ withRim (now (triangles .entry)) (tablesOf (now (scratch .entry))) ⌝ }
 {
-    set_count(s, origin(triangles, 0), 2);
-    set_head(s, origin(triangles, 2), 2);
+    set_count(scratch, origin(triangles, 0), 2);
+    set_head(scratch, origin(triangles, 2), 2);
 }
 
 // all of them
-pub fn pack_words(n: usize, triangles: &[u16], s: &mut [i64])
-    requires { ⌜ PackPre n (now s) × (org (now triangles) 0 < n) × (org (now triangles) 2 < n) ⌝ }
-    ensures laid { λ r. ⌜ Packed n (now (triangles .entry)) (withRim (now (triangles .entry)) (tablesOf (now (s .entry)))) (tablesOf (now (s .exit))) ⌝ }
-    ensures walksPacked { λ r. ⌜ WalksPacked n (withRim (now (triangles .entry)) (tablesOf (now (s .entry)))) (tablesOf (now (s .exit))) ⌝ }
+pub fn pack_words(n: usize, triangles: &[u16], scratch: &mut [i64])
+    requires { ⌜ PackPre n (now scratch) × (org (now triangles) 0 < n) × (org (now triangles) 2 < n) ⌝ }
+    ensures laid { λ r. ⌜ Packed n (now (triangles .entry)) (withRim (now (triangles .entry)) (tablesOf (now (scratch .entry)))) (tablesOf (now (scratch .exit))) ⌝ }
+    ensures walksPacked { λ r. ⌜ WalksPacked n (withRim (now (triangles .entry)) (tablesOf (now (scratch .entry)))) (tablesOf (now (scratch .exit))) ⌝ }
 {
-    set_rim(triangles, s);
-    pack_triangles(n, triangles, s);
-    pack_all_removed(n, triangles, s);
+    set_rim(triangles, scratch);
+    pack_triangles(n, triangles, scratch);
+    pack_all_removed(n, triangles, scratch);
 }

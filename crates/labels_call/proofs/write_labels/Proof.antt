@@ -9,10 +9,10 @@ use Rattle.labels_call.proofs.write_labels.Statement.{statement}
 use Rattle.labels_call.proofs.write_labels.Tie as tie
 
 abbrev Inv-loop : tie.InvT-loop
-Inv-loop s labels₀ i₀ labels i = Writing (tablesOf s .op) labels₀ labels i
+Inv-loop labels₀ scratch i₀ labels i = Writing (tablesOf scratch .op) labels₀ labels i
 
 abbrev μ-loop : tie.MeasureT-loop
-μ-loop s labels₀ i₀ labels i = length labels₀ - i
+μ-loop labels₀ scratch i₀ labels i = length labels₀ - i
 
 loop-holds : tie.Need-loop-holds Inv-loop μ-loop
 loop-holds c = writing-none _ (c .before .args .labels .now)

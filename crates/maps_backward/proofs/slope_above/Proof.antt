@@ -13,9 +13,11 @@ returns c = let f = c .difference in
     (f .ensures .0 ∙ above-1 _ (tablesOf _ .op) _ _ _ (sym (search) ∙ c .before .if1 .taken), f .ensures .1)
 
 returns-2 : tie.Need-returns-2
-returns-2 c = let f = c .difference2 in
+returns-2 c =
+    let across : tie.After-label-across = search in
+    let f = c .difference2 in
     rw (held (f .result) (f .ok))
-    (f .ensures .0 ∙ above-0 _ (tablesOf _ .op) _ _ _ (λ e. c .before .if1 .left (c .before .before .label-across .ensures ∙ e)), f .ensures .1)
+    (f .ensures .0 ∙ above-0 _ (tablesOf _ .op) _ _ _ (λ e. c .before .if1 .left (across .label-across .ensures ∙ e)), f .ensures .1)
 
 pub slope-above-spec : {M : Type 1} → statement M
 slope-above-spec =

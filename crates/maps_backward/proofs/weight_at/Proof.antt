@@ -29,8 +29,8 @@ returns c = let a = c .before .before .before .before .before .before .before .b
     let x = c .before .before .before .before .slope-above in let y = c .before .before .before .slope-below in let z = c .before .before .slope-below2 in
     let m = c .before .minus in let r = c .minus2 in
     let ex = held (x .result) (x .ok) ∙ x .ensures .0 ∙ ap₂ (above bs w _) i j in
-    let ey = held (y .result) (y .ok) ∙ y .ensures .0 ∙ ap₂ (below bs w _ 1 1) k i in
-    let ez = held (z .result) (z .ok) ∙ z .ensures .0 ∙ ap₂ (below bs w _ 2 0) k j in
+    let ey = held (y .result) (y .ok) ∙ y .ensures .0 ∙ ap₂ (below bs w _ 1) k i in
+    let ez = held (z .result) (z .ok) ∙ z .ensures .0 ∙ ap₂ (below bs w _ 0) k j in
     held (r .result) (r .ok) ∙ r .ensures .0 ∙ ap₂ _-ℤ_ (held (m .result) (m .ok) ∙ m .ensures .0 ∙ ap₂ _-ℤ_ ex ey) ez
 
 pub weight-at-spec : {M : Type 1} → statement M

@@ -16,11 +16,11 @@ use Rattle.maps_backward.proofs.weights_past_limit.Statement.{statement
 use Rattle.maps_backward.proofs.weights_past_limit.Tie as tie
 
 abbrev Inv-loop : tie.InvT-loop
-Inv-loop triangles scratch₀ coordinates first sum₀ i₀ scratch sum i = let ws = weights coordinates (tablesOf scratch₀ .op) triangles in
+Inv-loop triangles coordinates scratch₀ first sum₀ i₀ scratch sum i = let ws = weights coordinates (tablesOf scratch₀ .op) triangles in
     Buffering ws scratch₀ scratch i × Summed ws i sum × (i ≤ length triangles / 3) × (first ≡ pastDarts (length scratch₀))
 
 abbrev μ-loop : tie.MeasureT-loop
-μ-loop triangles scratch₀ coordinates first sum₀ i₀ scratch sum i = length triangles / 3 - i
+μ-loop triangles coordinates scratch₀ first sum₀ i₀ scratch sum i = length triangles / 3 - i
 
 loop-holds : tie.Need-loop-holds Inv-loop μ-loop
 loop-holds c = search (tablesOf, summed-none, weights, keeping-none, needs)

@@ -12,10 +12,10 @@ use Rattle.maps_backward.proofs.write_weights.Statement.{statement}
 use Rattle.maps_backward.proofs.write_weights.Tie as tie
 
 abbrev Inv-loop : tie.InvT-loop
-Inv-loop scratch weights₀ first i₀ weights i = Copied scratch weights₀ weights i × (i ≤ length weights₀) × (first ≡ pastDarts (length scratch))
+Inv-loop weights₀ scratch first i₀ weights i = Copied scratch weights₀ weights i × (i ≤ length weights₀) × (first ≡ pastDarts (length scratch))
 
 abbrev μ-loop : tie.MeasureT-loop
-μ-loop scratch weights₀ first i₀ weights i = length weights - i
+μ-loop weights₀ scratch first i₀ weights i = length weights - i
 
 loop-holds : tie.Need-loop-holds Inv-loop μ-loop
 loop-holds c = search (copied-none, needs)

@@ -11,11 +11,11 @@ use Rattle.maps_forward.proofs.propagate_all.Statement.{statement}
 use Rattle.maps_forward.proofs.propagate_all.Tie as tie
 
 abbrev Inv-loop : tie.InvT-loop
-Inv-loop n triangles scratch coordinates₀ k₀ coordinates k = (coordinates ≡ propagateAll triangles (tablesOf scratch) (n - 2) k coordinates₀)
+Inv-loop n triangles coordinates₀ scratch k₀ coordinates k = (coordinates ≡ propagateAll triangles (tablesOf scratch) (n - 2) k coordinates₀)
     × (length coordinates ≡ length coordinates₀) × (k ≤ n - 2)
 
 abbrev μ-loop : tie.MeasureT-loop
-μ-loop n triangles scratch coordinates₀ k₀ coordinates k = n - k
+μ-loop n triangles coordinates₀ scratch k₀ coordinates k = n - k
 
 loop-holds : tie.Need-loop-holds Inv-loop μ-loop
 loop-holds c = search (tablesOf, ups-none, needs)

@@ -9,11 +9,11 @@ use Rattle.maps_forward.proofs.store_fan.Statement.{statement}
 use Rattle.maps_forward.proofs.store_fan.Tie as tie
 
 abbrev Inv-loop : tie.InvT-loop
-Inv-loop triangles scratch weights coordinates₀ stop from g₀ k₀ coordinates g k =
+Inv-loop triangles weights coordinates₀ scratch stop from g₀ k₀ coordinates g k =
     Spreading triangles (tablesOf scratch) weights stop from coordinates₀ coordinates g k × (k ≤ length triangles)
 
 abbrev μ-loop : tie.MeasureT-loop
-μ-loop triangles scratch weights coordinates₀ stop from g₀ k₀ coordinates g k = length triangles - k
+μ-loop triangles weights coordinates₀ scratch stop from g₀ k₀ coordinates g k = length triangles - k
 
 loop-holds : tie.Need-loop-holds Inv-loop μ-loop
 loop-holds c = search (tablesOf, spreading-start, needs)

@@ -20,7 +20,7 @@ propagate-all-requires c κs =
     let after-place-corners : tie.After-place-corners = search in
     let p = start .pre in asks-up (p .0 .1) (start .args .weights .now) (p .1) (p .2) (start .args .coordinates .now) (p .3) (after-clear .clear .last .0)
     (after-clear .clear .ensures)
-    (after-down .accumulate-all .last .1 .1 .1 .1 .0) (after-place-corners .place-corners .last .1 .0) (after-down .accumulate-all .ensures)
+    (after-down .accumulate-all .last .1 .1 .1 .0) (after-place-corners .place-corners .last .1 .0) (after-down .accumulate-all .ensures)
     (after-place-corners .place-corners .ensures)
 
 write-thirds-requires : tie.Need-write-thirds-requires
@@ -32,8 +32,8 @@ write-thirds-requires c κs =
     let after-up : tie.After-propagate-all = search in
     let p = start .pre in asks-thirds (p .0 .1) (start .args .weights .now) (p .1) (p .2) (start .args .coordinates .now) (p .3) (after-clear .clear .last .0)
     (after-clear .clear .ensures)
-    (after-down .accumulate-all .last .1 .1 .1 .1 .0) (after-place-corners .place-corners .last .1 .0) (after-down .accumulate-all .ensures)
-    (after-place-corners .place-corners .ensures) (after-up .propagate-all .last .1 .1 .1 .0) (after-up .propagate-all .ensures)
+    (after-down .accumulate-all .last .1 .1 .1 .0) (after-place-corners .place-corners .last .1 .0) (after-down .accumulate-all .ensures)
+    (after-place-corners .place-corners .ensures) (after-up .propagate-all .last .1 .1 .0) (after-up .propagate-all .ensures)
 
 returns : tie.Need-returns
 returns c = search all-written

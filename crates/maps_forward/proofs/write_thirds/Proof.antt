@@ -1,37 +1,56 @@
--- `maps_forward::write_thirds` meets its contract. The loop's invariant: the vertices passed have their b2. Assumes nothing.
-use borrow.Author.Needs.{needs}
-use mathlib.Core.Path.{_≡_, _∙_, ap}
-use Prim.Native.Nat.{ℕ, _≤_, _-_}
+-- `maps_forward::write_thirds` meets its contract. The loop's invariant: the vertices passed have their third coordinate. Assumes nothing.
+use mathlib.Core.Path.{_≡_, _∙_, ap, sym}
 use native.Mathlib.Omega.{arith}
-use lib.ListN.{length}
-use Rattle.maps_forward_model.specs.Model.{thirds}
-use Rattle.maps_forward.specs.LoopLaws.{thirds-none, thirds-more}
+use Prim.Native.Nat.{_-_, _≤_}
+use mir.Syntax.{w64}
+use mir.Val.{toZ}
+use Rattle.definitions.specs.Mesh.{org}
+use Rattle.definitions.specs.Backward.{coordinate}
+use Rattle.int64.specs.Whole.{held}
+use Rattle.maps_forward_model.specs.Thirds.{ThirdsWritten, thirds-none, thirds-next, thirds-small}
+use borrow.Author.Needs.{needs}
 use Rattle.maps_forward.proofs.write_thirds.Statement.{statement}
 use Rattle.maps_forward.proofs.write_thirds.Tie as tie
 
 abbrev Inv-loop : tie.InvT-loop
-Inv-loop n triangles coordinates₀ k₀ coordinates k = (coordinates ≡ thirds triangles k coordinates₀) × (length coordinates ≡ length coordinates₀)
-    × (k ≤ n)
+Inv-loop n triangles coordinates₀ total v₀ coordinates v = (v ≤ n) × ThirdsWritten v (toZ w64 total) coordinates₀ coordinates
+    × (toZ w64 total ≡ coordinate coordinates₀ 0 (org triangles 0))
 
 abbrev μ-loop : tie.MeasureT-loop
-μ-loop n triangles coordinates₀ k₀ coordinates k = n - k
+μ-loop n triangles coordinates₀ total v₀ coordinates v = n - v
 
 loop-holds : tie.Need-loop-holds Inv-loop μ-loop
-loop-holds c = search (thirds-none, needs)
+loop-holds c =
+    let origin : tie.After-origin Inv-loop μ-loop = search in (
+      omega arith,
+      thirds-none _ _,
+      held _ (c .coordinate-of .ok) ∙ c .coordinate-of .ensures ∙ ap (coordinate _ 0) (origin .origin .ensures .0),
+    )
 
 write-third-requires : tie.Need-write-third-requires Inv-loop μ-loop
-write-third-requires c κs = let l = c .before .before .loop in (
-  omega (arith, c .before .before .before .before .pre .0, c .before .loop-test .taken),
-  rw (l .inv .0) (c .before .before .before .before .pre .1 (l .k) (search)),
-)
+write-third-requires c κs =
+    let start : tie.Start Inv-loop μ-loop = search in
+    let at-loop : tie.At-loop Inv-loop μ-loop = search in
+    let I = at-loop .loop .inv in
+    let P = start .pre in (
+      omega (arith, P .few),
+      omega (arith, P .long, I .1 .long),
+      rw (I .2) (P .small 0 _ (omega arith) (P .first)),
+      thirds-small P (I .1) 0 _ (omega arith) (search),
+      thirds-small P (I .1) 1 _ (omega arith) (search),
+    )
 
 loop-again : tie.Need-loop-again Inv-loop μ-loop
-loop-again c = search (thirds-more, needs)
+loop-again c =
+    let at-loop : tie.At-loop Inv-loop μ-loop = search in
+    let I = at-loop .loop .inv in
+    (omega arith, thirds-next _ _ _ _ _ (I .1) (omega arith) (c .before .write-third .ensures), I .2)
 
 returns : tie.Need-returns Inv-loop μ-loop
-returns c = let a = c .before .before .before .args in let l = c .before .loop in
-    let e : l .k ≡ a .n = omega (arith, c .loop-test .left, l .inv .2) in
-    l .inv .0 ∙ ap (λ (j : ℕ). thirds (a .triangles .now) j (a .coordinates .now)) e
+returns c =
+    let start : tie.Start Inv-loop μ-loop = search in
+    let I = c .before .loop .inv in
+    let e : c .before .loop .v ≡ start .args .n = omega arith in rw (sym (I .2), sym e) (I .1)
 
 pub write-thirds-spec : {M : Type 1} → statement M
 write-thirds-spec =
@@ -39,6 +58,8 @@ write-thirds-spec =
     (tie.spec
     Inv-loop
     μ-loop
+    (λ c κs. search needs)
+    (λ c κs. search needs)
     loop-holds
     write-third-requires
     (λ c. search needs)

@@ -9,11 +9,11 @@ use Rattle.repair_loop.proofs.raise_all.Statement.{statement}
 use Rattle.repair_loop.proofs.raise_all.Tie as tie
 
 abbrev Inv-loop : tie.InvT-loop
-Inv-loop n triangles weights₀ coordinates₀ s sum end total₀ count₀ full₀ t₀ weights coordinates total count full t =
-    Loops n triangles s weights₀ coordinates₀ weights coordinates total count full t
+Inv-loop n triangles weights₀ coordinates₀ scratch sum end total₀ count₀ full₀ t₀ weights coordinates total count full t =
+    Loops n triangles scratch weights₀ coordinates₀ weights coordinates total count full t
 
 abbrev μ-loop : tie.MeasureT-loop
-μ-loop n triangles weights₀ coordinates₀ s sum end total₀ count₀ full₀ t₀ weights coordinates total count full t = 2 * n - 4 - count
+μ-loop n triangles weights₀ coordinates₀ scratch sum end total₀ count₀ full₀ t₀ weights coordinates total count full t = 2 * n - 4 - count
 
 first-bad-requires : tie.Need-first-bad-requires Inv-loop μ-loop
 first-bad-requires c κs = search (start-within, start-some, needs)

@@ -14,31 +14,28 @@ pack-words-requires c κs =
     packable _ _ (start .pre .labels) _ (start .pre .peeled) (start .pre .room)
 
 build-preorders-requires : tie.Need-build-preorders-requires
-build-preorders-requires c κs = preorderable (c .before .before .before .before .before .before .before .before .before .before .pre .peeled)
-    (c .before .before .pack-words .last .1 .1 .0) (c .before .before .pack-words .ensures .0) (omega arith)
+build-preorders-requires c κs =
+    let start : tie.Start = search in
+    let packed : tie.After-pack-words = search in
+    preorderable (start .pre .peeled) _ (packed .pack-words .ensures .0) (omega arith)
 
 run-loop-requires : tie.Need-run-loop-requires
-run-loop-requires c κs = let a =
-    c .before .before .before .before .before .before .before .before .before .before .before .before .before .before .before .before .before .args in
-    loopable (a .n) (a .triangles .now) (a .s .now) (c .before .before .before .before .before .before .before .before .before .pack-words .last .1 .1 .0)
-    (c .before .before .before .before .before .before .build-preorders .last .1 .1 .0)
-    (c .before .before .before .before .before .before .before .before .before .pack-words .ensures .0)
-    (c .before .before .before .before .before .before .before .before .before .pack-words .ensures .1)
-    (c .before .before .before .before .before .before .build-preorders .ensures (withRim (a .triangles .now) (tablesOf (a .s .now))))
-    (a .weights .now) (a .coordinates .now)
-    (c .before .before .before .before .before .before .before .before .before .before .before .before .write-coordinates .last .1 .1 .1 .1 .0)
-    (c .before .before .before .sum-of-absolutes .result)
-    (c .before .before .before .before .before .before .before .before .before .before .before .before .before .before .before .before .before .pre) (cc)
-    (c .before .before .before .before .before .before .before .before .before .before .before .before .write-coordinates .ensures
-    (c .before .before .before .before .before .before .before .before .before .before .before .before .before .before .before .before .before .pre .labels)
-    (c .before .before .before .before .before .before .before .before .before .before .before .before .before .before .before .before .before .pre .peeled)) (c .before .before .before .sum-of-absolutes .ensures)
+run-loop-requires c κs =
+    let start : tie.Start = search in
+    let drawn : tie.After-write-coordinates = search in
+    let packed : tie.After-pack-words = search in
+    let built : tie.After-build-preorders = search in
+    let summed : tie.After-sum-of-absolutes = search in
+    loopable _ _ _ _ _ (packed .pack-words .ensures .0) (packed .pack-words .ensures .1) (built .build-preorders .ensures (withRim _ (tablesOf _))) _ _ _ _
+    (start .pre) (cc) (drawn .write-coordinates .ensures (start .pre .labels) (start .pre .peeled)) (summed .sum-of-absolutes .ensures)
 
 returns : tie.Need-returns
-returns c ls P = c .before .before .run-loop .ensures ls
-    (all-ready _ _ _ _ _ (search) (search) (c .before .before .before .before .before .before .before .before .before .build-preorders .ensures
-    (withRim _ (tablesOf _))) ls P)
-    (c .before .before .before .before .before .before .before .before .before .before .before .before .before .before .before .write-coordinates .ensures ls
-    P)
+returns c ls P =
+    let drawn : tie.After-write-coordinates = search in
+    let built : tie.After-build-preorders = search in
+    let run : tie.After-run-loop = search in
+    run .run-loop .ensures ls (all-ready _ _ _ _ _ (search) (search) (built .build-preorders .ensures (withRim _ (tablesOf _))) ls P)
+    (drawn .write-coordinates .ensures ls P)
 
 pub repair-labelled-spec : {M : Type 1} → statement M
 repair-labelled-spec =

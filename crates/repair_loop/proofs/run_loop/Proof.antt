@@ -1,5 +1,5 @@
 -- `repair_loop::run_loop` meets its contract, from those of its parts. Assumes nothing.
-use Rattle.repair_loop.specs.LoopInvariants.{closable, ends}
+use Rattle.repair_loop.specs.LoopInvariants.{thirds-pre, ends}
 use borrow.Author.Needs.{needs}
 use Rattle.repair_loop.proofs.run_loop.Statement.{statement}
 use Rattle.repair_loop.proofs.run_loop.Tie as tie
@@ -8,7 +8,7 @@ write-thirds-requires : tie.Need-write-thirds-requires
 write-thirds-requires c κs =
     let start : tie.Start = search in
     let after-raise-all : tie.After-raise-all = search in
-    closable _ _ _ _ _ _ (start .pre) _ _ _ (after-raise-all .raise-all .ensures)
+    thirds-pre _ _ _ _ _ _ (start .pre) _ _ _ (after-raise-all .raise-all .ensures)
 
 returns : tie.Need-returns
 returns c = search ends

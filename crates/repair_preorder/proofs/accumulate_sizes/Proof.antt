@@ -20,7 +20,7 @@ loop-holds c = (omega arith, record { long = refl; is = refl })
 
 add-size-requires : tie.Need-add-size-requires Inv-loop μ-loop
 add-size-requires c κs = let a = c .before .before .before .args in let l = c .before .before .loop in
-    let P = up-passable (addSize (a .colour)) (a .s .now) (l .s) (l .k) (l .inv .1) (a .n) (odd-add (a .colour)) (c .before .before .before .pre) in
+    let P = up-passable (addSize (a .colour)) (a .scratch .now) (l .scratch) (l .k) (l .inv .1) (a .n) (odd-add (a .colour)) (c .before .before .before .pre) in
     (omega (arith, P .few, c .before .loop-test .taken), omega (arith, parent-low (a .colour) (l .k) P (c .before .loop-test .taken), P .room))
 
 loop-again : tie.Need-loop-again Inv-loop μ-loop

@@ -1,13 +1,12 @@
 -- `repair_preorder::compute_sizes` meets its contract, from those of its two loops. Assumes nothing.
 use Rattle.scratch_tables.specs.Tables.{tablesOf}
-use Rattle.repair_preorder.specs.Model.{upward, initSize}
-use Rattle.repair_preorder.specs.LoopInvariants.{sized-is, passable-is, odd-upward, odd-one}
+use Rattle.repair_preorder.specs.LoopInvariants.{sized-is, ones-pass}
 use borrow.Author.Needs.{needs}
 use Rattle.repair_preorder.proofs.compute_sizes.Statement.{statement}
 use Rattle.repair_preorder.proofs.compute_sizes.Tie as tie
 
 accumulate-sizes-requires : tie.Need-accumulate-sizes-requires
-accumulate-sizes-requires c κs = search (tablesOf, upward, initSize, passable-is, odd-upward, odd-one)
+accumulate-sizes-requires c κs = search (tablesOf, ones-pass)
 
 returns : tie.Need-returns
 returns c = search (tablesOf, sized-is)

@@ -12,8 +12,6 @@ pub store-vertex-spec : {M : Type 1} → statement M
 store-vertex-spec =
     tie.close
     (tie.spec
-    (λ c. search needs)
-    (λ c. search needs)
     (λ c κs. search needs)
     (λ c κs. search needs)
     (λ c κs. search needs)

@@ -9,10 +9,10 @@ use Rattle.repair_search.proofs.first_bad.Statement.{statement}
 use Rattle.repair_search.proofs.first_bad.Tie as tie
 
 abbrev Inv-loop : tie.InvT-loop
-Inv-loop s coordinates from to i₀ i = Sought (badAt (tablesOf s) coordinates) from to i
+Inv-loop coordinates scratch from to i₀ i = Sought (badAt (tablesOf scratch) coordinates) from to i
 
 abbrev μ-loop : tie.MeasureT-loop
-μ-loop s coordinates from to i₀ i = to - i
+μ-loop coordinates scratch from to i₀ i = to - i
 
 loop-holds : tie.Need-loop-holds Inv-loop μ-loop
 loop-holds c = search (tablesOf, badAt, sought-none)

@@ -9,10 +9,10 @@ use Rattle.repair_search.proofs.lowest_on_walks.Statement.{statement}
 use Rattle.repair_search.proofs.lowest_on_walks.Tie as tie
 
 abbrev Inv-loop : tie.InvT-loop
-Inv-loop s coordinates steps full t k₀ a₀ b₀ d₀ r₀ k a b d r = Walks (tablesOf s) (badAt (tablesOf s) coordinates) steps full t k a b d r
+Inv-loop coordinates scratch steps full t k₀ a₀ b₀ d₀ r₀ k a b d r = Walks (tablesOf scratch) (badAt (tablesOf scratch) coordinates) steps full t k a b d r
 
 abbrev μ-loop : tie.MeasureT-loop
-μ-loop s coordinates steps full t k₀ a₀ b₀ d₀ r₀ k a b d r = k
+μ-loop coordinates scratch steps full t k₀ a₀ b₀ d₀ r₀ k a b d r = k
 
 returns : tie.Need-returns Inv-loop μ-loop
 returns c = search (tablesOf, badAt, lowest-none)
@@ -28,7 +28,7 @@ loop-again c = search (tablesOf, badAt, walks-next)
 
 returns-3 : tie.Need-returns-3 Inv-loop μ-loop
 returns-3 c = let a = c .before .before .before .args in
-    walks-stop (tablesOf (a .s .now)) (badAt (tablesOf (a .s .now)) (a .coordinates .now)) (a .steps) (a .full) (a .t) (c .before .loop .k)
+    walks-stop (tablesOf (a .scratch .now)) (badAt (tablesOf (a .scratch .now)) (a .coordinates .now)) (a .steps) (a .full) (a .t) (c .before .loop .k)
     (c .before .loop .a) (c .before .loop .b) (c .before .loop .d) (c .before .loop .r) (c .before .loop .inv) (omega (arith, c .loop-test .left))
 
 pub lowest-on-walks-spec : {M : Type 1} → statement M

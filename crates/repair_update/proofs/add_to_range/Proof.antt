@@ -11,10 +11,10 @@ use Rattle.repair_update.proofs.add_to_range.Statement.{statement}
 use Rattle.repair_update.proofs.add_to_range.Tie as tie
 
 abbrev Inv-loop : tie.InvT-loop
-Inv-loop s coordinates₀ a end c x p₀ coordinates p = Rowing s coordinates₀ a end c (toZ w64 x) coordinates p
+Inv-loop coordinates₀ scratch a end c x p₀ coordinates p = Rowing scratch coordinates₀ a end c (toZ w64 x) coordinates p
 
 abbrev μ-loop : tie.MeasureT-loop
-μ-loop s coordinates₀ a end c x p₀ coordinates p = end - p
+μ-loop coordinates₀ scratch a end c x p₀ coordinates p = end - p
 
 loop-holds : tie.Need-loop-holds Inv-loop μ-loop
 loop-holds c = search (rowing-none, toZ-ofZ, w64, toZ, ofZ)

@@ -20,7 +20,7 @@ add-to-range-requires : tie.Need-add-to-range-requires
 add-to-range-requires c κs = let a = c .before .before .before .before .before .before .before .args in
     let f = c .before .before .before .before .before .before .field3 .result in
     rw (toZ-ofZ (c .before .before .before .before .before .before .before .fits .x))
-    (subtree-rowable (a .s .now) (a .coordinates .now) (a .w) (a .x) (c .before .before .before .before .before .before .before .pre) f
+    (subtree-rowable (a .scratch .now) (a .coordinates .now) (a .w) (a .x) (c .before .before .before .before .before .before .before .pre) f
     (c .before .before .before .preorder-start .result + c .before .before .field1 .result)
     (c .before .before .before .preorder-start .result + c .before .before .field1 .result + c .field2 .result) (2 - f)
     (c .before .before .before .before .before .before .field3 .ensures) (c .before .before .before .before .before .if1 .left) (omega arith)
@@ -29,12 +29,12 @@ add-to-range-requires c κs = let a = c .before .before .before .before .before 
 returns-3 : tie.Need-returns-3
 returns-3 c = let a = c .before .before .before .before .before .before .before .before .before .args in
     let f = c .before .before .before .before .before .before .before .before .field3 .result in
-    subtree-followed (a .s .now) (a .coordinates .now) (a .w) (a .x) (c .before .before .before .before .before .before .before .before .before .pre) f
+    subtree-followed (a .scratch .now) (a .coordinates .now) (a .w) (a .x) (c .before .before .before .before .before .before .before .before .before .pre) f
     (c .before .before .before .before .before .preorder-start .result + c .before .before .before .before .field1 .result)
     (c .before .before .before .before .before .preorder-start .result + c .before .before .before .before .field1 .result +
     c .before .before .field2 .result) (2 - f) (c .before .before .before .before .before .before .before .before .field3 .ensures)
     (c .before .before .before .before .before .before .before .if1 .left) (omega arith) (omega arith) (omega arith) refl
-    (c .before .add-to-range .last .1 .0) (rw (toZ-ofZ (c .before .before .before .before .before .before .before .before .before .fits .x))
+    (c .before .add-to-range .last .0) (rw (toZ-ofZ (c .before .before .before .before .before .before .before .before .before .fits .x))
     at (c .before .add-to-range .ensures .0)) (c .before .add-to-range .ensures .1)
 
 pub add-to-subtree-spec : {M : Type 1} → statement M

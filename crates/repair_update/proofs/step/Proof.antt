@@ -10,12 +10,12 @@ use Rattle.repair_update.proofs.step.Tie as tie
 
 add-to-subtree-requires : tie.Need-add-to-subtree-requires
 add-to-subtree-requires c κs = let a = c .before .before .args in
-    rw (toZ-ofZ (c .before .before .fits .x)) (subst (λ (w : ℕ). Movable (a .s .now) (a .coordinates .now) w (a .x)) (cc) (c .before .before .pre .1))
+    rw (toZ-ofZ (c .before .before .fits .x)) (subst (λ (w : ℕ). Movable (a .scratch .now) (a .coordinates .now) w (a .x)) (cc) (c .before .before .pre .1))
 
 returns : tie.Need-returns
 returns c = let a = c .before .before .before .before .before .args in (
   c .field0 .ensures .0 ∙ ap field0 (c .before .before .before .before .walk-at .ensures .0),
-  subst (λ (w : ℕ). Followed (a .s .now) w (a .x) (a .coordinates .now) (c .before .before .add-to-subtree .last .1 .0))
+  subst (λ (w : ℕ). Followed (a .scratch .now) w (a .x) (a .coordinates .now) (c .before .before .add-to-subtree .last .0))
       (c .before .before .before .before .walk-at .ensures .0)
       (rw (toZ-ofZ (c .before .before .before .before .before .fits .x)) at (c .before .before .add-to-subtree .ensures)),
 )

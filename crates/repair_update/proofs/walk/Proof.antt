@@ -10,10 +10,10 @@ use Rattle.repair_update.proofs.walk.Statement.{statement}
 use Rattle.repair_update.proofs.walk.Tie as tie
 
 abbrev Inv-loop : tie.InvT-loop
-Inv-loop s coordinates₀ steps t x k₀ at₀ coordinates k at = Walking s coordinates₀ steps t (toZ w64 x) coordinates k at
+Inv-loop coordinates₀ scratch steps t x k₀ at₀ coordinates k at = Walking scratch coordinates₀ steps t (toZ w64 x) coordinates k at
 
 abbrev μ-loop : tie.MeasureT-loop
-μ-loop s coordinates₀ steps t x k₀ at₀ coordinates k at = k
+μ-loop coordinates₀ scratch steps t x k₀ at₀ coordinates k at = k
 
 loop-holds : tie.Need-loop-holds Inv-loop μ-loop
 loop-holds c = search (walking-none, toZ-ofZ, w64, toZ, ofZ)

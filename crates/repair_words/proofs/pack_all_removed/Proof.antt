@@ -35,7 +35,7 @@ loop-again c = search (tablesOf, removed-next, needs)
 returns : tie.Need-returns Inv-loop μ-loop
 returns c = let a = c .before .before .before .args in
     let e : c .before .loop .k ≡ a .n - 2 = omega (arith, c .loop-test .left, c .before .loop .inv .0) in
-    subst (λ (m : ℕ). RemovedPacked (a .n) (a .triangles .now) (tablesOf (a .s .now)) (tablesOf (c .before .loop .s)) m) e (c .before .loop .inv .2)
+    subst (λ (m : ℕ). RemovedPacked (a .n) (a .triangles .now) (tablesOf (a .scratch .now)) (tablesOf (c .before .loop .scratch)) m) e (c .before .loop .inv .2)
 
 pub pack-all-removed-spec : {M : Type 1} → statement M
 pack-all-removed-spec =

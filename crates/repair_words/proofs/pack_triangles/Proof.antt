@@ -22,7 +22,7 @@ loop-again c = search (tablesOf, walks-next, needs)
 returns : tie.Need-returns Inv-loop μ-loop
 returns c = let a = c .before .before .before .args in
     let e : c .before .loop .t ≡ 2 * a .n - 4 = omega (arith, c .loop-test .left, c .before .loop .inv .1) in
-    subst (λ (m : ℕ). TrianglesPacked (a .n) (a .triangles .now) (tablesOf (a .s .now)) (tablesOf (c .before .loop .s)) m) e (c .before .loop .inv .3)
+    subst (λ (m : ℕ). TrianglesPacked (a .n) (a .triangles .now) (tablesOf (a .scratch .now)) (tablesOf (c .before .loop .scratch)) m) e (c .before .loop .inv .3)
 
 pub pack-triangles-spec : {M : Type 1} → statement M
 pack-triangles-spec =

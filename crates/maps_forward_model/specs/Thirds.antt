@@ -1,7 +1,6 @@
--- The loop that writes the third coordinates. Assumes nothing.
+-- The loop that writes the third coordinates: the three of a vertex sum to N, which is coordinate 0 of v0. Assumes nothing.
 use Prim.Native.Nat.{ℕ, _+_, _*_, _≤_, _<_}
 use mathlib.Core.Path.{_≡_, refl, sym, _∙_}
-use mathlib.Core.Bool.{false}
 use mathlib.Core.List.{List}
 use native.Mathlib.Omega.{arith}
 use native.Mathlib.Decide.{ℕ-discrete}
@@ -11,29 +10,27 @@ use lib.IntN.{ℤ, pos, natAbs, _-ℤ_}
 use Rattle.definitions.specs.Mesh.{org}
 use Rattle.definitions.specs.Backward.{coordinate}
 use Rattle.definitions.specs.Repair.{limit}
-use Rattle.definitions.specs.Refusals.{row10}
-use Rattle.maps_limits.specs.Limits.{coordinate-range}
 
--- three coordinates to each of n vertices, none past the limit
-pub record Closable (n : ℕ) (ts : List ℕ) (bs : List ℤ) : Type 0 where
+-- three coordinates to each of n vertices, of which the first two are within the limit
+pub record ThirdsPre (n : ℕ) (ts : List ℕ) (bs : List ℤ) : Type 0 where
   pub few : n ≤ 4096
   pub first : org ts 0 < n
   pub long : length bs ≡ 3 * n
-  pub within : row10 bs ≡ false
+  pub small : (c i : ℕ) → c < 2 → i < n → natAbs (coordinate bs c i) ≤ limit
 
 -- the third coordinates of the first v vertices are written; nothing else has changed
-pub record Closed (v : ℕ) (N : ℤ) (bs bs′ : List ℤ) : Type 0 where
+pub record ThirdsWritten (v : ℕ) (N : ℤ) (bs bs′ : List ℤ) : Type 0 where
   pub long : length bs′ ≡ length bs
   pub same : (c i : ℕ) → c < 2 → coordinate bs′ c i ≡ coordinate bs c i
   pub third : (i : ℕ) → i < v → coordinate bs′ 2 i ≡ N -ℤ coordinate bs 0 i -ℤ coordinate bs 1 i
 
-pub closed-none : (N : ℤ) (bs : List ℤ) → Closed 0 N bs bs
-closed-none N bs = record { long = refl; same = λ c i h. refl; third = λ i h. absurd (omega arith) }
+pub thirds-none : (N : ℤ) (bs : List ℤ) → ThirdsWritten 0 N bs bs
+thirds-none N bs = record { long = refl; same = λ c i h. refl; third = λ i h. absurd (omega arith) }
 
-pub closed-next : (v : ℕ) (N : ℤ) (bs bs′ bs″ : List ℤ) → Closed v N bs bs′ → 3 * v + 2 < length bs′ →
-    bs″ ≡ set bs′ (3 * v + 2) (N -ℤ coordinate bs′ 0 v -ℤ coordinate bs′ 1 v) → Closed (v + 1) N bs bs″
+pub thirds-next : (v : ℕ) (N : ℤ) (bs bs′ bs″ : List ℤ) → ThirdsWritten v N bs bs′ → 3 * v + 2 < length bs′ →
+    bs″ ≡ set bs′ (3 * v + 2) (N -ℤ coordinate bs′ 0 v -ℤ coordinate bs′ 1 v) → ThirdsWritten (v + 1) N bs bs″
 unfolding coordinate
-closed-next v N bs bs′ bs″ C room e =
+thirds-next v N bs bs′ bs″ C room e =
     let y = N -ℤ coordinate bs′ 0 v -ℤ coordinate bs′ 1 v in
     rw e
     (record {
@@ -46,7 +43,7 @@ closed-next v N bs bs′ bs″ C room e =
           ];
     })
 
--- what is read is within the limit
-pub closed-within : (v : ℕ) (N : ℤ) (bs bs′ : List ℤ) → Closed v N bs bs′ → row10 bs ≡ false → (c i : ℕ) → c < 2 →
-    natAbs (coordinate bs′ c i) ≤ limit
-closed-within v N bs bs′ C e c i h = rw (C .same c i h) (coordinate-range bs e c i)
+-- what the loop reads is within the limit
+pub thirds-small : {n : ℕ} {ts : List ℕ} {v : ℕ} {N : ℤ} {bs bs′ : List ℤ} → ThirdsPre n ts bs → ThirdsWritten v N bs bs′ → (c i : ℕ) →
+    c < 2 → i < n → natAbs (coordinate bs′ c i) ≤ limit
+thirds-small P C c i h l = rw (C .same c i h) (P .small c i h l)

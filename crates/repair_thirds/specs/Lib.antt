@@ -1,2 +1,0 @@
--- The third coordinates of all vertices.
-pub mod Thirds
