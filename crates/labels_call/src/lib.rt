@@ -33,7 +33,7 @@ pub fn label_mesh(n: usize, triangles: &[u16], scratch: &mut [i64]) -> MeshAnswe
     let MeshAnswer::Accepted = examined else {
         return examined;
     };
-    labels_peel::peel(triangles, scratch, n);
+    labels_peel::peel(n, triangles, scratch);
     MeshAnswer::Accepted
 }
 

@@ -10,7 +10,8 @@ use lib.ListN.{length}
 use Rattle.definitions.specs.Mesh.{opp}
 use Rattle.laws.specs.Lists.{tested}
 use Rattle.scratch_tables.specs.Tables.{Tables, upd-same, upd-other, setMark}
-use Rattle.labels_model.specs.Model.{oppositeOf, frontierDegree, blockBound, groupBound, globalBound, storeDegree, setBlockBound, setGroupBound}
+use Rattle.labels_tables.specs.LabelledTables.{oppositeIn}
+use Rattle.labels_model.specs.Model.{frontierDegree, blockBound, groupBound, globalBound, storeDegree, setBlockBound, setGroupBound}
 use Rattle.labels_model.specs.Model.{setGlobalBound, lowerBlockBound, lowerGroupBound, lowerGlobalBound, lowerBounds, setDegree}
 
 -- the even marks may differ, and nothing else does
@@ -34,10 +35,10 @@ beside-then p q =
 
 -- the opposites are there
 abbrev pub Opposed : List ℕ → Tables → Type 0
-Opposed ts t = (d : ℕ) → d < length ts → oppositeOf t d ≡ opp ts d
+Opposed ts t = (d : ℕ) → d < length ts → oppositeIn (t .op) d ≡ opp ts d
 
 pub opposed-beside : (ts : List ℕ) {t t′ : Tables} → Beside t t′ → Opposed ts t → Opposed ts t′
-unfolding oppositeOf
+unfolding oppositeIn
 opposed-beside ts b o d h = rw (b .ops d) (o d h)
 
 -- ---- one mark

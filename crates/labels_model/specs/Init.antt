@@ -16,7 +16,8 @@ use Rattle.theory_sphere.specs.Sphere.{Sphere}
 use Rattle.theory_sphere.specs.Rotations.{tip-opp}
 use Rattle.theory_peeling.specs.Inside.{three, org-opp0, org-opp1, org-opp2, proper01, proper12, proper20}
 use Rattle.scratch_tables.specs.Tables.{Tables, upd, upd-same, upd-other, setOp, setHead, setCount, setMark}
-use Rattle.labels_model.specs.Model.{oppositeOf, frontierDegree, blockBound, groupBound, globalBound, dartWord, addFrontierDart, clearDegrees}
+use Rattle.labels_tables.specs.LabelledTables.{oppositeIn}
+use Rattle.labels_model.specs.Model.{frontierDegree, blockBound, groupBound, globalBound, dartWord, addFrontierDart, clearDegrees}
 use Rattle.labels_model.specs.Model.{initDegrees, initFrontier, initLabels, init}
 use Rattle.labels_model.specs.NeighbourCounts.{tip-is, met, met-most, joins, met-add, joins-none, joins-both, joins-one}
 use Rattle.labels_model.specs.Counters.{mark-same, mark-other}
@@ -167,8 +168,8 @@ module _ (n : ℕ) (ts : List ℕ) (s : Sphere n (length ts / 3) (org ts) (opp t
     unfolding initDegrees setMark
     op₁ d h = wipe-op n 0 t d ∙ opposed d h
 
-    behind₁ : (d : ℕ) → d < length ts → oppositeOf t₁ d ≡ opp ts d
-    unfolding oppositeOf
+    behind₁ : (d : ℕ) → d < length ts → oppositeIn (t₁ .op) d ≡ opp ts d
+    unfolding oppositeIn
     behind₁ d h = omega (arith, op₁ d h, s .dart d (omega arith), len, few)
 
     abbrev x : ℕ
@@ -234,8 +235,8 @@ module _ (n : ℕ) (ts : List ℕ) (s : Sphere n (length ts / 3) (org ts) (opp t
     abbrev t₃ : Tables
     t₃ = initLabels t₂
 
-    behind₂ : (d : ℕ) → d < length ts → oppositeOf t₂ d ≡ opp ts d
-    unfolding oppositeOf
+    behind₂ : (d : ℕ) → d < length ts → oppositeIn (t₂ .op) d ≡ opp ts d
+    unfolding oppositeIn
     behind₂ d h = omega (arith, op₂ d h, s .dart d (omega arith), len, few)
 
     outer-code : (d : ℕ) → d < 3 → code [] d ≡ 3
@@ -249,20 +250,20 @@ module _ (n : ℕ) (ts : List ℕ) (s : Sphere n (length ts / 3) (org ts) (opp t
     coded₃ : Coded ts [] t₃
     unfolding initLabels setOp
     coded₃ d h =
-        let a = upd 0 (dartWord (oppositeOf t₂ 0) 3) (t₂ .op) in
-        let b = upd 1 (dartWord (oppositeOf t₂ 1) 3) a in
+        let a = upd 0 (dartWord (oppositeIn (t₂ .op) 0) 3) (t₂ .op) in
+        let b = upd 1 (dartWord (oppositeIn (t₂ .op) 1) 3) a in
         elim (ℕ-discrete d 2) [
-          | yes q ↦ rw (q, outer-code 2 (omega arith)) (upd-same 2 (dartWord (oppositeOf t₂ 2) 3) b
+          | yes q ↦ rw (q, outer-code 2 (omega arith)) (upd-same 2 (dartWord (oppositeIn (t₂ .op) 2) 3) b
               ∙ omega (arith, behind₂ 2 (omega (arith, three-in 2 (omega arith)))))
           | no q ↦
-              upd-other 2 d (dartWord (oppositeOf t₂ 2) 3) b q ∙ elim (ℕ-discrete d 1) [
-                | yes r ↦ rw (r, outer-code 1 (omega arith)) (upd-same 1 (dartWord (oppositeOf t₂ 1) 3) a
+              upd-other 2 d (dartWord (oppositeIn (t₂ .op) 2) 3) b q ∙ elim (ℕ-discrete d 1) [
+                | yes r ↦ rw (r, outer-code 1 (omega arith)) (upd-same 1 (dartWord (oppositeIn (t₂ .op) 1) 3) a
                     ∙ omega (arith, behind₂ 1 (omega (arith, three-in 1 (omega arith)))))
                 | no r ↦
-                    upd-other 1 d (dartWord (oppositeOf t₂ 1) 3) a r ∙ elim (ℕ-discrete d 0) [
-                      | yes p ↦ rw (p, outer-code 0 (omega arith)) (upd-same 0 (dartWord (oppositeOf t₂ 0) 3) (t₂ .op)
+                    upd-other 1 d (dartWord (oppositeIn (t₂ .op) 1) 3) a r ∙ elim (ℕ-discrete d 0) [
+                      | yes p ↦ rw (p, outer-code 0 (omega arith)) (upd-same 0 (dartWord (oppositeIn (t₂ .op) 0) 3) (t₂ .op)
                           ∙ omega (arith, behind₂ 0 (omega (arith, three-in 0 (omega arith)))))
-                      | no p ↦ upd-other 0 d (dartWord (oppositeOf t₂ 0) 3) (t₂ .op) p ∙ omega (arith, op₂ d h, inner-code d (omega arith))
+                      | no p ↦ upd-other 0 d (dartWord (oppositeIn (t₂ .op) 0) 3) (t₂ .op) p ∙ omega (arith, op₂ d h, inner-code d (omega arith))
                     ]
               ]
         ]

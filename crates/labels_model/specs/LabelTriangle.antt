@@ -17,7 +17,8 @@ use Rattle.theory_sphere.specs.Sphere.{Sphere}
 use Rattle.theory_sphere.specs.Darts.{next-prev, prev-next, next-next, next-below, prev-below, next-other, prev-other}
 use Rattle.theory_sphere.specs.Rotations.{tip-opp}
 use Rattle.scratch_tables.specs.Tables.{Tables, upd, upd-same, upd-other, setOp, setHead, setCount}
-use Rattle.labels_model.specs.Model.{oppositeOf, dartWord, setLabels, addFrontierDart, passTriangle}
+use Rattle.labels_tables.specs.LabelledTables.{oppositeIn}
+use Rattle.labels_model.specs.Model.{dartWord, setLabels, addFrontierDart, passTriangle}
 use Rattle.labels_model.specs.Counters.{Opposed}
 
 -- the darts from 3 on are those of inner triangles
@@ -84,7 +85,7 @@ module _ (n : ℕ) (ts : List ℕ) (s : Sphere n (length ts / 3) (org ts) (opp t
   T = length ts / 3
 
   pub coded-opposed : (P : List ℕ) (t : Tables) → Coded ts P t → Opposed ts t
-  unfolding oppositeOf
+  unfolding oppositeIn
   coded-opposed P t c d h = omega (arith, c d h, s .dart d (omega arith), few, len)
 
   module _ (P : List ℕ) (t : Tables) (c : Coded ts P t) (g : ℕ) (h : g < 3 * T) (inner : 3 ≤ g) (fresh : (prev g ∈ P → ⊥)
@@ -95,15 +96,15 @@ module _ (n : ℕ) (ts : List ℕ) (s : Sphere n (length ts / 3) (org ts) (opp t
     tag-coded : Coded ts (P ++ (g ∷ [])) (setLabels g t)
     unfolding setLabels setOp
     tag-coded d l =
-        let at : (x : ℕ) → x < 3 * T → oppositeOf t x ≡ opp ts x = λ x b. o x (omega (arith, b, len)) in
-        let a = dartWord (oppositeOf t (next g)) 0 in
-        let b = dartWord (oppositeOf t (prev g)) 1 in
+        let at : (x : ℕ) → x < 3 * T → oppositeIn (t .op) x ≡ opp ts x = λ x b. o x (omega (arith, b, len)) in
+        let a = dartWord (oppositeIn (t .op) (next g)) 0 in
+        let b = dartWord (oppositeIn (t .op) (prev g)) 1 in
         let c₀ = upd (next g) a (t .op) in
         let c₁ = upd (prev g) b c₀ in
         elim (ℕ-discrete d g) [
-          | yes q ↦ rw (q, code-here P g inner fresh) (upd-same g (dartWord (oppositeOf t g) 2) c₁ ∙ omega (arith, at g h))
+          | yes q ↦ rw (q, code-here P g inner fresh) (upd-same g (dartWord (oppositeIn (t .op) g) 2) c₁ ∙ omega (arith, at g h))
           | no q ↦
-              upd-other g d (dartWord (oppositeOf t g) 2) c₁ q ∙ elim (ℕ-discrete d (prev g)) [
+              upd-other g d (dartWord (oppositeIn (t .op) g) 2) c₁ q ∙ elim (ℕ-discrete d (prev g)) [
                 | yes r ↦ rw (r, code-prev P g inner fresh) (upd-same (prev g) b c₀ ∙ omega (arith, at (prev g) (prev-below T g h)))
                 | no r ↦
                     upd-other (prev g) d b c₀ r ∙ elim (ℕ-discrete d (next g)) [

@@ -16,7 +16,7 @@ use Rattle.scratch_tables.specs.Tables.{Tables, setOp, setHead, setCount, setMa
 use Rattle.labels_model.specs.Model.{Found, rotated, frontierDegree, blockBound, groupBound, globalBound, storeDegree, setBlockBound, setGroupBound}
 use Rattle.labels_model.specs.Model.{setGlobalBound, lowerBounds, setDegree, incrementDegree, decrementDegree, countNeighbour, countNeighbours}
 use Rattle.labels_model.specs.Model.{enterFrontier, setLabels, addFrontierDart, passTriangle, passFan, leaveFrontier, removeVertex, isRemovable}
-use Rattle.labels_model.specs.Model.{firstInRange, blockEnd, groupEnd, blockInGroup, searchBlock, firstInBlock, firstInBlocks, searchGroup}
+use Rattle.labels_model.specs.Model.{firstInRange, blockEnd, groupEnd, blockInGroup, firstInBlock, firstInBlocks}
 use Rattle.labels_model.specs.Model.{firstInGroup, firstRemovable}
 use Rattle.labels_model.specs.Counters.{Beside, beside-same, beside-then, mark-other, near-small, near-same, near-other, setNear-low, setNear-top}
 use Rattle.labels_model.specs.Counters.{setNear-root, setLow-beside, low-same, low-other, setLow-near, setLow-top, setLow-root, setTop-beside}
@@ -279,7 +279,7 @@ module _ (ts : List ℕ) (n w : ℕ) (wn : w < n) where
     end = from + (blockEnd n b - from)
 
     hit : b ≡ w / 16 → firstInBlock ts n b t ≡ record { vertex = w; tables = setBlockBound b (w - 16 * b) t }
-    unfolding firstInBlock searchBlock
+    unfolding firstInBlock
     hit q =
         let k : blockBound t b ≤ w % 16 = rw q (l .bounded w wn (l .able) .0) in
         let f = scan-finds ts t w (blockEnd n b - from) from (omega (arith, k, q)) (omega (arith, k, q, wn)) (l .able) (l .first) in
@@ -296,7 +296,7 @@ module _ (ts : List ℕ) (n w : ℕ) (wn : w < n) where
         }
 
     missed : b < w / 16 → Missed ts n (blockEnd n b) t (firstInBlock ts n b t)
-    unfolding firstInBlock searchBlock
+    unfolding firstInBlock
     missed q =
         let f = scan-misses ts t (blockEnd n b - from) from in
         elim (tested (ltb (blockBound t b) 16)) [
@@ -360,7 +360,7 @@ module _ (ts : List ℕ) (n w : ℕ) (wn : w < n) where
     y = blockInGroup n (f .vertex)
 
     found : g ≡ w / 256 → Sought ts n t w (firstInGroup ts n g t)
-    unfolding firstInGroup searchGroup
+    unfolding firstInGroup
     found q =
         let k : groupBound t g ≤ w / 16 % 16 = rw q (l .bounded w wn (l .able) .1) in
         let r = find-finds (groupEnd n g - start) start t (omega (arith, k, q)) (omega (arith, k, q, wn)) l in
@@ -377,7 +377,7 @@ module _ (ts : List ℕ) (n w : ℕ) (wn : w < n) where
         })
 
     none : g < w / 256 → Missed ts n n t (firstInGroup ts n g t)
-    unfolding firstInGroup searchGroup
+    unfolding firstInGroup
     none q =
         elim (tested (ltb (groupBound t g) 16)) [
           | inl e ↦

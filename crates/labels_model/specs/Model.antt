@@ -12,6 +12,7 @@ use lib.Dec.{ltb, eqb}
 use lib.ListN.{length}
 use Rattle.definitions.specs.Mesh.{next, prev, org, tip}
 use Rattle.scratch_tables.specs.Tables.{Tables, dartIn, setOp, setHead, setCount, setMark}
+use Rattle.labels_tables.specs.LabelledTables.{oppositeIn}
 
 -- so many neighbours, and the tables after they were counted
 pub record Counted : Type 0 where
@@ -23,12 +24,8 @@ pub record Found : Type 0 where
   pub vertex : ℕ
   pub tables : Tables
 
--- the opposite of dart d, and the dart that one rotation leads to
-unfoldable pub oppositeOf : Tables → ℕ → ℕ
-oppositeOf t d = t .op d % 65536
-
 unfoldable pub rotated : Tables → ℕ → ℕ
-rotated t d = oppositeOf t (prev d)
+rotated t d = oppositeIn (t .op) (prev d)
 
 -- the word of a dart with this opposite whose corner has this label
 abbrev pub dartWord : ℕ → ℕ → ℕ
@@ -93,7 +90,7 @@ countNeighbour w c t = cond (ltb 0 (frontierDegree t w)) (record { count = c + 1
 -- the labels of the triangle of the leaving vertex's dart g: 2 at its corner, 0 at the next, 1 at the previous
 unfoldable pub setLabels : ℕ → Tables → Tables
 setLabels g t =
-    setOp g (dartWord (oppositeOf t g) 2) (setOp (prev g) (dartWord (oppositeOf t (prev g)) 1) (setOp (next g) (dartWord (oppositeOf t (next g)) 0) t))
+    setOp g (dartWord (oppositeIn (t .op) g) 2) (setOp (prev g) (dartWord (oppositeIn (t .op) (prev g)) 1) (setOp (next g) (dartWord (oppositeIn (t .op) (next g)) 0) t))
 
 -- v leaves as the i-th, from between `left` and `right`
 unfoldable pub leaveFrontier : ℕ → ℕ → ℕ → ℕ → Tables → Tables
@@ -110,7 +107,7 @@ clearDegrees (suc k) v t = clearDegrees k (suc v) (setMark (2 * v) 0 t)
 
 -- the outer triangle's corners have no label, which 3 stands for
 unfoldable pub initLabels : Tables → Tables
-initLabels t = setOp 2 (dartWord (oppositeOf t 2) 3) (setOp 1 (dartWord (oppositeOf t 1) 3) (setOp 0 (dartWord (oppositeOf t 0) 3) t))
+initLabels t = setOp 2 (dartWord (oppositeIn (t .op) 2) 3) (setOp 1 (dartWord (oppositeIn (t .op) 1) 3) (setOp 0 (dartWord (oppositeIn (t .op) 0) 3) t))
 
 -- where block b ends; and where the blocks of group g do
 abbrev pub blockEnd : ℕ → ℕ → ℕ
@@ -143,7 +140,7 @@ module _ (ts : List ℕ) where
 
   -- the triangle of dart g is passed: the dart across from the leaving vertex is the frontier's now
   unfoldable pub passTriangle : ℕ → Tables → Tables
-  passTriangle g t = cond (ltb g (length ts)) (addFrontierDart (org ts (prev g)) (org ts (next g)) (oppositeOf t (next g)) (setLabels g t)) t
+  passTriangle g t = cond (ltb g (length ts)) (addFrontierDart (org ts (prev g)) (org ts (next g)) (oppositeIn (t .op) (next g)) (setLabels g t)) t
 
   -- k triangles of the leaving vertex from that of g on, or as many as there are before the one that ends at `right`; the vertices between come
   -- onto the frontier
@@ -171,16 +168,13 @@ module _ (ts : List ℕ) where
   firstInRange t zero v = v
   firstInRange t (suc k) v = cond (isRemovable t v) v (firstInRange t k (suc v))
 
-  -- the same of block b from its bound on, which is moved there; of the n vertices those from `blockEnd` on are in later blocks
-  unfoldable pub searchBlock : ℕ → ℕ → Tables → Found
-  searchBlock n b t =
+  -- the same of block b from its bound on, which is moved there; of the n vertices those from `blockEnd` on are in later blocks, and a block whose
+  -- bound is its end is passed over
+  unfoldable pub firstInBlock : ℕ → ℕ → Tables → Found
+  firstInBlock n b t =
       let from = 16 * b + blockBound t b in
       let v = firstInRange t (blockEnd n b - from) from in
-      record { vertex = v; tables = setBlockBound b (v - 16 * b) t }
-
-  -- a block whose bound is its end is passed over
-  unfoldable pub firstInBlock : ℕ → ℕ → Tables → Found
-  firstInBlock n b t = cond (ltb (blockBound t b) 16) (searchBlock n b t) (record { vertex = n; tables = t })
+      cond (ltb (blockBound t b) 16) (record { vertex = v; tables = setBlockBound b (v - 16 * b) t }) (record { vertex = n; tables = t })
 
   -- the first of k blocks from b on that has such a vertex
   unfoldable pub firstInBlocks : ℕ → ℕ → ℕ → Tables → Found
@@ -189,16 +183,13 @@ module _ (ts : List ℕ) where
       let f = firstInBlock n b t in
       cond (ltb (f .vertex) (blockEnd n b)) f (firstInBlocks n k (suc b) (f .tables))
 
-  -- the same of the blocks of group g from its bound on, which is moved there
-  unfoldable pub searchGroup : ℕ → ℕ → Tables → Found
-  searchGroup n g t =
+  -- the same of the blocks of group g from its bound on, which is moved there; a group whose bound is its end is passed over
+  unfoldable pub firstInGroup : ℕ → ℕ → Tables → Found
+  firstInGroup n g t =
       let from = 16 * g + groupBound t g in
       let f = firstInBlocks n (groupEnd n g - from) from t in
-      record { vertex = f .vertex; tables = setGroupBound g (blockInGroup n (f .vertex)) (f .tables) }
-
-  -- a group whose bound is its end is passed over
-  unfoldable pub firstInGroup : ℕ → ℕ → Tables → Found
-  firstInGroup n g t = cond (ltb (groupBound t g) 16) (searchGroup n g t) (record { vertex = n; tables = t })
+      cond (ltb (groupBound t g) 16) (record { vertex = f .vertex; tables = setGroupBound g (blockInGroup n (f .vertex)) (f .tables) })
+      (record { vertex = n; tables = t })
 
   -- the first of k groups from g on that has such a vertex
   unfoldable pub firstRemovable : ℕ → ℕ → ℕ → Tables → Found
@@ -227,7 +218,7 @@ module _ (ts : List ℕ) where
   initDegrees t = setMark (2 * org ts 2) 3 (setMark (2 * org ts 1) 3 (setMark (2 * org ts 0) 3 t))
 
   unfoldable pub initFrontier : Tables → Tables
-  initFrontier t = addFrontierDart (org ts 2) (org ts 1) (oppositeOf t 1) (addFrontierDart (org ts 1) (org ts 0) (oppositeOf t 0) t)
+  initFrontier t = addFrontierDart (org ts 2) (org ts 1) (oppositeIn (t .op) 1) (addFrontierDart (org ts 1) (org ts 0) (oppositeIn (t .op) 0) t)
 
   unfoldable pub init : ℕ → Tables → Tables
   init n t = initLabels (initFrontier (initDegrees (clearDegrees n 0 t)))

@@ -11,11 +11,12 @@ use borrow.Author.Tests.{lt-ltb, le-ltb, eq-eqb, ne-eqb}
 use Rattle.definitions.specs.Mesh.{next, prev, org, tip}
 use lib.IntN.{ℤ}
 use Rattle.scratch_tables.specs.Tables.{Tables, tablesOf, dartIn, vertexIn, markIn, setOp, setHead, setCount, setMark}
-use Rattle.labels_model.specs.Model.{Counted, Found, HasVertex, HasTriangle, Room, HasVertices, oppositeOf, rotated, frontierDegree, blockBound, groupBound}
+use Rattle.labels_tables.specs.LabelledTables.{oppositeIn}
+use Rattle.labels_model.specs.Model.{Counted, Found, HasVertex, HasTriangle, Room, HasVertices, rotated, frontierDegree, blockBound, groupBound}
 use Rattle.labels_model.specs.Model.{globalBound, storeDegree, setBlockBound, setGroupBound, setGlobalBound, lowerBlockBound, lowerGroupBound}
 use Rattle.labels_model.specs.Model.{lowerGlobalBound, lowerBounds, setDegree, incrementDegree, decrementDegree, countNeighbour, countNeighbours}
 use Rattle.labels_model.specs.Model.{enterFrontier, dartWord, setLabels, addFrontierDart, passTriangle, passFan, leaveFrontier, removeVertex, isRemovable}
-use Rattle.labels_model.specs.Model.{firstInRange, blockEnd, blockInGroup, searchBlock, firstInBlock, firstInBlocks, searchGroup, firstInGroup}
+use Rattle.labels_model.specs.Model.{firstInRange, blockEnd, blockInGroup, firstInBlock, firstInBlocks, firstInGroup}
 use Rattle.labels_model.specs.Model.{firstRemovable, removeNext, removeAll, clearDegrees, initDegrees, initFrontier, initLabels, init, peelTables}
 use Rattle.labels_model.specs.Simulation.{all-suc}
 use Rattle.labels_model.specs.MinSearch.{scan-least, scan-most}
@@ -75,10 +76,6 @@ pub outer-room : (words d : ℕ) → 10 ≤ words → d < 6 → dartIn words d
 outer-room words d h l = omega arith
 
 -- ---- reading
-
-pub across-is : (t : Tables) (d r : ℕ) → r ≡ t .op d → r % 65536 ≡ oppositeOf t d
-unfolding oppositeOf
-across-is t d r e = ap (λ (x : ℕ). x % 65536) e
 
 pub small-past : (r : ℕ) → r % 65536 < 65536
 small-past r = omega arith
@@ -186,20 +183,20 @@ module _ (w c k : ℕ) (t : Tables) where
   meet-off e h = rw (le-ltb 0 (frontierDegree t w) (omega (arith, e)))
 
 -- the walk is over, or goes on from where one rotation leads
-round-suc : (ts : List ℕ) (first k d c p h w c′ : ℕ) (t t′ : Tables) → p ≡ prev d → h ≡ oppositeOf t p → w ≡ org ts p →
+round-suc : (ts : List ℕ) (first k d c p h w c′ : ℕ) (t t′ : Tables) → p ≡ prev d → h ≡ oppositeIn (t .op) p → w ≡ org ts p →
     countNeighbour w c t ≡ record { count = c′; tables = t′ }
     → countNeighbours ts first (suc k) d c t ≡ cond (eqb h first) (record { count = c′; tables = t′ }) (countNeighbours ts first k h c′ t′)
 unfolding countNeighbours rotated
 round-suc ts first k d c p h w c′ t t′ a b e q = rw (sym a, sym b, sym e, q)
 
 module _ (ts : List ℕ) (first k d c p h w c′ : ℕ) (t t′ : Tables) (end : Counted) where
-  pub round-over : 0 < k → p ≡ prev d → h ≡ oppositeOf t p → w ≡ org ts p → countNeighbour w c t ≡ record { count = c′; tables = t′ } →
+  pub round-over : 0 < k → p ≡ prev d → h ≡ oppositeIn (t .op) p → w ≡ org ts p → countNeighbour w c t ≡ record { count = c′; tables = t′ } →
       h ≡ first → countNeighbours ts first k d c t ≡ end → end ≡ record { count = c′; tables = t′ }
   round-over l a b e m q i =
       let j : k ≡ suc (k - 1) = omega arith in
       sym (rw (j, round-suc ts first (k - 1) d c p h w c′ t t′ a b e m, eq-eqb h first q) at i)
 
-  pub round-more : 0 < k → p ≡ prev d → h ≡ oppositeOf t p → w ≡ org ts p → countNeighbour w c t ≡ record { count = c′; tables = t′ } →
+  pub round-more : 0 < k → p ≡ prev d → h ≡ oppositeIn (t .op) p → w ≡ org ts p → countNeighbour w c t ≡ record { count = c′; tables = t′ } →
       (h ≡ first → ⊥) → countNeighbours ts first k d c t ≡ end → countNeighbours ts first (k - 1) h c′ t′ ≡ end
   round-more l a b e m q i =
       let j : k ≡ suc (k - 1) = omega arith in
@@ -225,25 +222,25 @@ enter-is ts u d c t t′ t″ a b = rw a b
 
 -- ---- a triangle is passed
 
-pub tag-is : (g q p i a j b k c : ℕ) (t t1 t2 t3 : Tables) → q ≡ next g → p ≡ prev g → i ≡ oppositeOf t q → a ≡ dartWord i 0 →
-    j ≡ oppositeOf t p → b ≡ dartWord j 1 → k ≡ oppositeOf t g → c ≡ dartWord k 2
+pub tag-is : (g q p i a j b k c : ℕ) (t t1 t2 t3 : Tables) → q ≡ next g → p ≡ prev g → i ≡ oppositeIn (t .op) q → a ≡ dartWord i 0 →
+    j ≡ oppositeIn (t .op) p → b ≡ dartWord j 1 → k ≡ oppositeIn (t .op) g → c ≡ dartWord k 2
     → t1 ≡ setOp q a t → t2 ≡ setOp p b t1 → t3 ≡ setOp g c t2 → t3 ≡ setLabels g t
 unfolding setLabels
 tag-is g q p i a j b k c t t1 t2 t3 qe pe ie ae je be ke ce x y z =
-    let u : a ≡ dartWord (oppositeOf t (next g)) 0 = ae ∙ ap (λ (m : ℕ). dartWord m 0) (ie ∙ ap (oppositeOf t) qe) in
-    let v : b ≡ dartWord (oppositeOf t (prev g)) 1 = be ∙ ap (λ (m : ℕ). dartWord m 1) (je ∙ ap (oppositeOf t) pe) in
-    let w : c ≡ dartWord (oppositeOf t g) 2 = ce ∙ ap (λ (m : ℕ). dartWord m 2) ke in
-    let x′ : t1 ≡ setOp (next g) (dartWord (oppositeOf t (next g)) 0) t = x ∙ ap₂ (λ (m r : ℕ). setOp m r t) qe u in
-    let y′ : t2 ≡ setOp (prev g) (dartWord (oppositeOf t (prev g)) 1) (setOp (next g) (dartWord (oppositeOf t (next g)) 0) t) = y
-    ∙ ap₂ (λ (m r : ℕ). setOp m r t1) pe v ∙ ap (setOp (prev g) (dartWord (oppositeOf t (prev g)) 1)) x′ in
-    z ∙ ap (λ (m : ℕ). setOp g m t2) w ∙ ap (setOp g (dartWord (oppositeOf t g) 2)) y′
+    let u : a ≡ dartWord (oppositeIn (t .op) (next g)) 0 = ae ∙ ap (λ (m : ℕ). dartWord m 0) (ie ∙ ap (oppositeIn (t .op)) qe) in
+    let v : b ≡ dartWord (oppositeIn (t .op) (prev g)) 1 = be ∙ ap (λ (m : ℕ). dartWord m 1) (je ∙ ap (oppositeIn (t .op)) pe) in
+    let w : c ≡ dartWord (oppositeIn (t .op) g) 2 = ce ∙ ap (λ (m : ℕ). dartWord m 2) ke in
+    let x′ : t1 ≡ setOp (next g) (dartWord (oppositeIn (t .op) (next g)) 0) t = x ∙ ap₂ (λ (m r : ℕ). setOp m r t) qe u in
+    let y′ : t2 ≡ setOp (prev g) (dartWord (oppositeIn (t .op) (prev g)) 1) (setOp (next g) (dartWord (oppositeIn (t .op) (next g)) 0) t) = y
+    ∙ ap₂ (λ (m r : ℕ). setOp m r t1) pe v ∙ ap (setOp (prev g) (dartWord (oppositeIn (t .op) (prev g)) 1)) x′ in
+    z ∙ ap (λ (m : ℕ). setOp g m t2) w ∙ ap (setOp g (dartWord (oppositeIn (t .op) g) 2)) y′
 
 pub border-is : (v w x : ℕ) (t t′ t″ : Tables) → t′ ≡ setCount w x t → t″ ≡ setHead v x t′ → t″ ≡ addFrontierDart v w x t
 unfolding addFrontierDart
 border-is v w x t t′ t″ m n = n ∙ ap (setHead v x) m
 
 pub pass-is : (ts : List ℕ) (g q p v w x : ℕ) (t t′ t″ : Tables) → g < length ts → q ≡ next g → p ≡ prev g → v ≡ org ts p →
-    w ≡ org ts q → x ≡ oppositeOf t q → t′ ≡ setLabels g t → t″ ≡ addFrontierDart v w x t′
+    w ≡ org ts q → x ≡ oppositeIn (t .op) q → t′ ≡ setLabels g t → t″ ≡ addFrontierDart v w x t′
     → t″ ≡ passTriangle ts g t
 unfolding passTriangle
 pass-is ts g q p v w x t t′ t″ h a b c d e m n = rw (lt-ltb g (length ts) h, sym a, sym b, sym c, sym d, sym e, sym m) n
@@ -254,20 +251,20 @@ pass-none ts g t h = rw (le-ltb g (length ts) h)
 
 -- ---- the fan
 
-fan-suc : (ts : List ℕ) (right k g p h u : ℕ) (t t′ : Tables) → p ≡ prev g → u ≡ org ts p → h ≡ oppositeOf t p →
+fan-suc : (ts : List ℕ) (right k g p h u : ℕ) (t t′ : Tables) → p ≡ prev g → u ≡ org ts p → h ≡ oppositeIn (t .op) p →
     t′ ≡ passTriangle ts g t
     → passFan ts right (suc k) g t ≡ cond (eqb u right) t′ (passFan ts right k h (enterFrontier ts u p t′))
 unfolding passFan rotated
 fan-suc ts right k g p h u t t′ a b c m = rw (sym a, sym b, sym c, sym m)
 
 module _ (ts : List ℕ) (right k g p h u : ℕ) (t t′ end : Tables) where
-  pub fan-over : 0 < k → p ≡ prev g → u ≡ org ts p → h ≡ oppositeOf t p → t′ ≡ passTriangle ts g t → u ≡ right →
+  pub fan-over : 0 < k → p ≡ prev g → u ≡ org ts p → h ≡ oppositeIn (t .op) p → t′ ≡ passTriangle ts g t → u ≡ right →
       passFan ts right k g t ≡ end → t′ ≡ end
   fan-over l a b c m q i =
       let j : k ≡ suc (k - 1) = omega arith in
       rw (j, fan-suc ts right (k - 1) g p h u t t′ a b c m, eq-eqb u right q) at i
 
-  pub fan-more : (t″ : Tables) → 0 < k → p ≡ prev g → u ≡ org ts p → h ≡ oppositeOf t p → t′ ≡ passTriangle ts g t →
+  pub fan-more : (t″ : Tables) → 0 < k → p ≡ prev g → u ≡ org ts p → h ≡ oppositeIn (t .op) p → t′ ≡ passTriangle ts g t →
       (u ≡ right → ⊥) → t″ ≡ enterFrontier ts u p t′ → passFan ts right k g t ≡ end → passFan ts right (k - 1) h t″ ≡ end
   fan-more t″ l a b c m q n i =
       let j : k ≡ suc (k - 1) = omega arith in
@@ -344,21 +341,17 @@ module _ (ts : List ℕ) (n b : ℕ) (t : Tables) where
     most = omega (arith, a, c, d, scan-most ts t (end - from) from);
   }
 
-  pub probe-is : (end l from v : ℕ) (t′ : Tables) → end ≡ min n (16 * b + 16) → l ≡ blockBound t b → from ≡ 16 * b + l →
+  pub block-found : (end l from v : ℕ) (t′ : Tables) → l ≡ blockBound t b → l < 16 → end ≡ min n (16 * b + 16) → from ≡ 16 * b + l →
       v ≡ firstInRange ts t (end - from) from → t′ ≡ setBlockBound b (v - 16 * b) t
-      → searchBlock ts n b t ≡ record { vertex = v; tables = t′ }
-  unfolding searchBlock
-  probe-is end l from v t′ a e c d q =
+      → firstInBlock ts n b t ≡ record { vertex = v; tables = t′ }
+  unfolding firstInBlock
+  block-found end l from v t′ e h a c d q =
       let f : from ≡ 16 * b + blockBound t b = c ∙ ap (λ (x : ℕ). 16 * b + x) e in
-      rw (sym f, sym a, sym d) (ap (λ (x : Tables). record { vertex = v; tables = x }) (sym q))
+      rw (lt-ltb (blockBound t b) 16 (omega (arith, e)), sym f, sym a, sym d) (ap (λ (x : Tables). record { vertex = v; tables = x }) (sym q))
 
-  pub look-in : (l : ℕ) (f : Found) → l ≡ blockBound t b → l < 16 → searchBlock ts n b t ≡ f → firstInBlock ts n b t ≡ f
+  pub block-passed : (l : ℕ) → l ≡ blockBound t b → 16 ≤ l → firstInBlock ts n b t ≡ record { vertex = n; tables = t }
   unfolding firstInBlock
-  look-in l f e h q = rw (lt-ltb (blockBound t b) 16 (omega (arith, e))) q
-
-  pub look-past : (l : ℕ) → l ≡ blockBound t b → 16 ≤ l → firstInBlock ts n b t ≡ record { vertex = n; tables = t }
-  unfolding firstInBlock
-  look-past l e h = rw (le-ltb (blockBound t b) 16 (omega (arith, e)))
+  block-passed l e h = rw (le-ltb (blockBound t b) 16 (omega (arith, e)))
 
 find-suc : (ts : List ℕ) (n k b v : ℕ) (t t′ : Tables) → firstInBlock ts n b t ≡ record { vertex = v; tables = t′ }
     → firstInBlocks ts n (suc k) b t ≡ cond (ltb v (blockEnd n b)) (record { vertex = v; tables = t′ }) (firstInBlocks ts n k (suc b) t′)
@@ -400,21 +393,17 @@ unfolding blockInGroup
 seat-past n v h = rw (le-ltb v n h) (refl, omega arith)
 
 module _ (ts : List ℕ) (n g : ℕ) (t : Tables) where
-  pub comb-is : (end l from v y : ℕ) (t′ t″ : Tables) → end ≡ min (n / 16 + 1) (16 * g + 16) → l ≡ groupBound t g → from ≡ 16 * g + l →
-      firstInBlocks ts n (end - from) from t ≡ record { vertex = v; tables = t′ } → y ≡ blockInGroup n v
-      → t″ ≡ setGroupBound g y t′ → searchGroup ts n g t ≡ record { vertex = v; tables = t″ }
-  unfolding searchGroup
-  comb-is end l from v y t′ t″ a e c d f q =
+  pub group-found : (end l from v y : ℕ) (t′ t″ : Tables) → l ≡ groupBound t g → l < 16 → end ≡ min (n / 16 + 1) (16 * g + 16) →
+      from ≡ 16 * g + l → firstInBlocks ts n (end - from) from t ≡ record { vertex = v; tables = t′ } → y ≡ blockInGroup n v
+      → t″ ≡ setGroupBound g y t′ → firstInGroup ts n g t ≡ record { vertex = v; tables = t″ }
+  unfolding firstInGroup
+  group-found end l from v y t′ t″ e k a c d f q =
       let h : from ≡ 16 * g + groupBound t g = c ∙ ap (λ (x : ℕ). 16 * g + x) e in
-      rw (sym h, sym a, d, sym f) (ap (λ (x : Tables). record { vertex = v; tables = x }) (sym q))
+      rw (lt-ltb (groupBound t g) 16 (omega (arith, e)), sym h, sym a, d, sym f) (ap (λ (x : Tables). record { vertex = v; tables = x }) (sym q))
 
-  pub survey-in : (l : ℕ) (f : Found) → l ≡ groupBound t g → l < 16 → searchGroup ts n g t ≡ f → firstInGroup ts n g t ≡ f
+  pub group-passed : (l : ℕ) → l ≡ groupBound t g → 16 ≤ l → firstInGroup ts n g t ≡ record { vertex = n; tables = t }
   unfolding firstInGroup
-  survey-in l f e h q = rw (lt-ltb (groupBound t g) 16 (omega (arith, e))) q
-
-  pub survey-past : (l : ℕ) → l ≡ groupBound t g → 16 ≤ l → firstInGroup ts n g t ≡ record { vertex = n; tables = t }
-  unfolding firstInGroup
-  survey-past l e h = rw (le-ltb (groupBound t g) 16 (omega (arith, e)))
+  group-passed l e h = rw (le-ltb (groupBound t g) 16 (omega (arith, e)))
 
 seek-suc : (ts : List ℕ) (n k g v : ℕ) (t t′ : Tables) → firstInGroup ts n g t ≡ record { vertex = v; tables = t′ }
     → firstRemovable ts n (suc k) g t ≡ cond (ltb v n) (record { vertex = v; tables = t′ }) (firstRemovable ts n k (suc g) t′)
@@ -514,19 +503,19 @@ pub marks-is : (ts : List ℕ) (a b c : ℕ) (t t1 t2 t3 : Tables) → a ≡ org
 unfolding initDegrees
 marks-is ts a b c t t1 t2 t3 x y z p q r = rw (sym x, sym y, sym z) (r ∙ ap (setMark (2 * c) 3) (q ∙ ap (setMark (2 * b) 3) p))
 
-pub edges-is : (ts : List ℕ) (a b c x y : ℕ) (t t1 t2 : Tables) → a ≡ org ts 0 → b ≡ org ts 1 → c ≡ org ts 2 → x ≡ oppositeOf t 0 →
-    y ≡ oppositeOf t 1 → t1 ≡ addFrontierDart b a x t → t2 ≡ addFrontierDart c b y t1 → t2 ≡ initFrontier ts t
+pub edges-is : (ts : List ℕ) (a b c x y : ℕ) (t t1 t2 : Tables) → a ≡ org ts 0 → b ≡ org ts 1 → c ≡ org ts 2 → x ≡ oppositeIn (t .op) 0 →
+    y ≡ oppositeIn (t .op) 1 → t1 ≡ addFrontierDart b a x t → t2 ≡ addFrontierDart c b y t1 → t2 ≡ initFrontier ts t
 unfolding initFrontier
 edges-is ts a b c x y t t1 t2 d e f i j p q = rw (sym d, sym e, sym f, sym i, sym j) (q ∙ ap (addFrontierDart c b y) p)
 
-pub labels-is : (i a j b k c : ℕ) (t t1 t2 t3 : Tables) → i ≡ oppositeOf t 0 → a ≡ dartWord i 3 → j ≡ oppositeOf t 1 → b ≡ dartWord j 3 →
-    k ≡ oppositeOf t 2 → c ≡ dartWord k 3
+pub labels-is : (i a j b k c : ℕ) (t t1 t2 t3 : Tables) → i ≡ oppositeIn (t .op) 0 → a ≡ dartWord i 3 → j ≡ oppositeIn (t .op) 1 → b ≡ dartWord j 3 →
+    k ≡ oppositeIn (t .op) 2 → c ≡ dartWord k 3
     → t1 ≡ setOp 0 a t → t2 ≡ setOp 1 b t1 → t3 ≡ setOp 2 c t2 → t3 ≡ initLabels t
 unfolding initLabels
 labels-is i a j b k c t t1 t2 t3 ie ae je be ke ce x y z =
-    let u : a ≡ dartWord (oppositeOf t 0) 3 = ae ∙ ap (λ (m : ℕ). dartWord m 3) ie in
-    let v : b ≡ dartWord (oppositeOf t 1) 3 = be ∙ ap (λ (m : ℕ). dartWord m 3) je in
-    let w : c ≡ dartWord (oppositeOf t 2) 3 = ce ∙ ap (λ (m : ℕ). dartWord m 3) ke in
+    let u : a ≡ dartWord (oppositeIn (t .op) 0) 3 = ae ∙ ap (λ (m : ℕ). dartWord m 3) ie in
+    let v : b ≡ dartWord (oppositeIn (t .op) 1) 3 = be ∙ ap (λ (m : ℕ). dartWord m 3) je in
+    let w : c ≡ dartWord (oppositeIn (t .op) 2) 3 = ce ∙ ap (λ (m : ℕ). dartWord m 3) ke in
     rw (sym u, sym v, sym w) (z ∙ ap (setOp 2 c) (y ∙ ap (setOp 1 b) x))
 
 pub begin-is : (ts : List ℕ) (n : ℕ) (t t1 t2 t3 t4 : Tables) → t1 ≡ clearDegrees n 0 t → t2 ≡ initDegrees ts t1 → t3 ≡ initFrontier ts t2 →

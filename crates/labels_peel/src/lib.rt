@@ -1,5 +1,6 @@
 // The labels stage over scratch: the vertices leave the frontier one by one, the smallest that can leave first, and their triangles get labels.
 // What the tables hold is told where the work is defined.
+use labels_tables::opposite;
 use scratch_tables::get_count;
 use scratch_tables::get_head;
 use scratch_tables::get_mark;
@@ -17,17 +18,10 @@ ghost use Prim.Native.Nat.{_+_, _-_, _/_, _≤_, _<_, _^_, min};
 ghost use lib.ListN.{length};
 ghost use Rattle.scratch_tables.specs.Tables.{tablesOf};
 ghost use Rattle.labels_model.specs.Model.{HasVertex, HasTriangle, Room, HasVertices};
-ghost use Rattle.labels_model.specs.Model.{oppositeOf, frontierDegree, blockBound, groupBound, globalBound, storeDegree, setBlockBound, setGroupBound, setGlobalBound, lowerBlockBound, lowerGroupBound, lowerGlobalBound, lowerBounds, setDegree, incrementDegree, decrementDegree};
+ghost use Rattle.labels_model.specs.Model.{frontierDegree, blockBound, groupBound, globalBound, storeDegree, setBlockBound, setGroupBound, setGlobalBound, lowerBlockBound, lowerGroupBound, lowerGlobalBound, lowerBounds, setDegree, incrementDegree, decrementDegree};
 ghost use Rattle.labels_model.specs.Model.{countNeighbour, countNeighbours, enterFrontier, dartWord, setLabels, addFrontierDart, passTriangle, passFan, leaveFrontier, removeVertex};
-ghost use Rattle.labels_model.specs.Model.{isRemovable, firstInRange, searchBlock, firstInBlock, firstInBlocks, blockInGroup, searchGroup, firstInGroup, firstRemovable, removeNext, removeAll};
+ghost use Rattle.labels_model.specs.Model.{isRemovable, firstInRange, firstInBlock, firstInBlocks, blockInGroup, firstInGroup, firstRemovable, removeNext, removeAll};
 ghost use Rattle.labels_model.specs.Model.{clearDegrees, initDegrees, initFrontier, initLabels, init, peelTables};
-
-// the opposite of dart d
-fn opposite(s: &[i64], d: usize) -> usize
-    ensures { λ r. ⌜ (r ≡ oppositeOf (tablesOf (now (s .entry))) d) × (r < 65536) ⌝ }
-{
-    get_op(s, d) % 65536
-}
 
 // the counter of vertex w, the bound of block b, that of group g, and that of all groups
 fn frontier_degree(s: &[i64], w: usize) -> usize
@@ -332,38 +326,29 @@ fn first_in_range(triangles: &[u16], s: &[i64], end: usize, from: usize) -> usiz
     v
 }
 
-// the same in block b from its bound on, which is moved there
-fn search_block(triangles: &[u16], s: &mut [i64], n: usize, b: usize) -> usize
-    requires { ⌜ HasVertices n (length (now s)) × (b < n) × (blockBound (tablesOf (now s)) b < 16) ⌝ }
-    ensures { λ r. ⌜ searchBlock (now (triangles .entry)) n b (tablesOf (now (s .entry))) ≡ record { vertex = r; tables = tablesOf (now (s .exit)) } ⌝ }
+// the same in block b from its bound on, which is moved there; a block whose bound is its end is passed over
+fn first_in_block(n: usize, triangles: &[u16], s: &mut [i64], b: usize) -> usize
+    requires { ⌜ HasVertices n (length (now s)) × (b < n) ⌝ }
+    ensures { λ r. ⌜ firstInBlock (now (triangles .entry)) n b (tablesOf (now (s .entry))) ≡ record { vertex = r; tables = tablesOf (now (s .exit)) } ⌝ }
 {
+    let bound = block_bound(s, b);
+    if bound >= 16 {
+        return n;
+    }
     let end = smaller(n, 16 * b + 16);
-    let from = 16 * b + block_bound(s, b);
-    let v = first_in_range(triangles, s, end, from);
+    let v = first_in_range(triangles, s, end, 16 * b + bound);
     set_block_bound(s, b, v - 16 * b);
     v
 }
 
-// a block whose bound is its end is passed over
-fn first_in_block(triangles: &[u16], s: &mut [i64], n: usize, b: usize) -> usize
-    requires { ⌜ HasVertices n (length (now s)) × (b < n) ⌝ }
-    ensures { λ r. ⌜ firstInBlock (now (triangles .entry)) n b (tablesOf (now (s .entry))) ≡ record { vertex = r; tables = tablesOf (now (s .exit)) } ⌝ }
-{
-    if block_bound(s, b) < 16 {
-        search_block(triangles, s, n, b)
-    } else {
-        n
-    }
-}
-
 // the first block from `from` on and before `end` that has such a vertex
-fn first_in_blocks(triangles: &[u16], s: &mut [i64], n: usize, end: usize, from: usize) -> usize
+fn first_in_blocks(n: usize, triangles: &[u16], s: &mut [i64], end: usize, from: usize) -> usize
     requires { ⌜ HasVertices n (length (now s)) × (end ≤ n) ⌝ }
     ensures { λ r. ⌜ firstInBlocks (now (triangles .entry)) n (end - from) from (tablesOf (now (s .entry))) ≡ record { vertex = r; tables = tablesOf (now (s .exit)) } ⌝ }
 {
     let mut b = from;
     while b < end {
-        let v = first_in_block(triangles, s, n, b);
+        let v = first_in_block(n, triangles, s, b);
         if v < smaller(n, 16 * b + 16) {
             return v;
         }
@@ -379,39 +364,30 @@ fn block_in_group(n: usize, v: usize) -> usize
     if v < n { v / 16 % 16 } else { 16 }
 }
 
-// the same in the blocks of group g from its bound on, which is moved there
-fn search_group(triangles: &[u16], s: &mut [i64], n: usize, g: usize) -> usize
-    requires { ⌜ HasVertices n (length (now s)) × (g < n) × (groupBound (tablesOf (now s)) g < 16) ⌝ }
-    ensures { λ r. ⌜ searchGroup (now (triangles .entry)) n g (tablesOf (now (s .entry))) ≡ record { vertex = r; tables = tablesOf (now (s .exit)) } ⌝ }
+// the same in the blocks of group g from its bound on, which is moved there; a group whose bound is its end is passed over
+fn first_in_group(n: usize, triangles: &[u16], s: &mut [i64], g: usize) -> usize
+    requires { ⌜ HasVertices n (length (now s)) × (g < n) ⌝ }
+    ensures { λ r. ⌜ firstInGroup (now (triangles .entry)) n g (tablesOf (now (s .entry))) ≡ record { vertex = r; tables = tablesOf (now (s .exit)) } ⌝ }
 {
+    let bound = group_bound(s, g);
+    if bound >= 16 {
+        return n;
+    }
     let end = smaller(n / 16 + 1, 16 * g + 16);
-    let from = 16 * g + group_bound(s, g);
-    let v = first_in_blocks(triangles, s, n, end, from);
+    let v = first_in_blocks(n, triangles, s, end, 16 * g + bound);
     set_group_bound(s, g, block_in_group(n, v));
     v
 }
 
-// a group whose bound is its end is passed over
-fn first_in_group(triangles: &[u16], s: &mut [i64], n: usize, g: usize) -> usize
-    requires { ⌜ HasVertices n (length (now s)) × (g < n) ⌝ }
-    ensures { λ r. ⌜ firstInGroup (now (triangles .entry)) n g (tablesOf (now (s .entry))) ≡ record { vertex = r; tables = tablesOf (now (s .exit)) } ⌝ }
-{
-    if group_bound(s, g) < 16 {
-        search_group(triangles, s, n, g)
-    } else {
-        n
-    }
-}
-
 // the smallest vertex that can leave, found by groups of blocks from group `from` on
-fn first_removable(triangles: &[u16], s: &mut [i64], n: usize, from: usize) -> usize
+fn first_removable(n: usize, triangles: &[u16], s: &mut [i64], from: usize) -> usize
     requires { ⌜ HasVertices n (length (now s)) × (0 < n) ⌝ }
     ensures { λ r. ⌜ firstRemovable (now (triangles .entry)) n (n / 256 + 1 - from) from (tablesOf (now (s .entry))) ≡ record { vertex = r; tables = tablesOf (now (s .exit)) } ⌝ }
 {
     let groups = n / 256 + 1;
     let mut g = from;
     while g < groups {
-        let v = first_in_group(triangles, s, n, g);
+        let v = first_in_group(n, triangles, s, g);
         if v < n {
             return v;
         }
@@ -421,12 +397,12 @@ fn first_removable(triangles: &[u16], s: &mut [i64], n: usize, from: usize) -> u
 }
 
 // it is looked for from the bound of all groups on, which is moved to its group, and leaves, as the i-th
-fn remove_next(triangles: &[u16], s: &mut [i64], n: usize, i: usize)
+fn remove_next(n: usize, triangles: &[u16], s: &mut [i64], i: usize)
     requires { ⌜ Room (now triangles) (length (now s)) × HasVertices n (length (now s)) × (i < n) ⌝ }
     ensures { λ r. ⌜ tablesOf (now (s .exit)) ≡ removeNext (now (triangles .entry)) n i (tablesOf (now (s .entry))) ⌝ }
 {
     let from = global_bound(s);
-    let v = first_removable(triangles, s, n, from);
+    let v = first_removable(n, triangles, s, from);
     if v < n {
         set_global_bound(s, v / 256);
         remove_vertex(triangles, s, i, v);
@@ -434,19 +410,19 @@ fn remove_next(triangles: &[u16], s: &mut [i64], n: usize, i: usize)
 }
 
 // all vertices but v0 and v1 leave
-fn remove_all(triangles: &[u16], s: &mut [i64], n: usize)
+fn remove_all(n: usize, triangles: &[u16], s: &mut [i64])
     requires { ⌜ Room (now triangles) (length (now s)) × HasVertices n (length (now s)) ⌝ }
     ensures { λ r. ⌜ tablesOf (now (s .exit)) ≡ removeAll (now (triangles .entry)) n (n - 2) 0 (tablesOf (now (s .entry))) ⌝ }
 {
     let mut i = 0;
     while i + 2 < n {
-        remove_next(triangles, s, n, i);
+        remove_next(n, triangles, s, i);
         i += 1;
     }
 }
 
 // no vertex is on the frontier
-fn clear_degrees(s: &mut [i64], n: usize)
+fn clear_degrees(n: usize, s: &mut [i64])
     requires { ⌜ HasVertices n (length (now s)) ⌝ }
     ensures { λ r. ⌜ tablesOf (now (s .exit)) ≡ clearDegrees n 0 (tablesOf (now (s .entry))) ⌝ }
 {
@@ -496,21 +472,21 @@ fn init_labels(s: &mut [i64])
     set_op(s, 2, c);
 }
 
-fn init(triangles: &[u16], s: &mut [i64], n: usize)
+fn init(n: usize, triangles: &[u16], s: &mut [i64])
     requires { ⌜ Room (now triangles) (length (now s)) × HasVertices n (length (now s)) ⌝ }
     ensures { λ r. ⌜ tablesOf (now (s .exit)) ≡ init (now (triangles .entry)) n (tablesOf (now (s .entry))) ⌝ }
 {
-    clear_degrees(s, n);
+    clear_degrees(n, s);
     init_degrees(triangles, s);
     init_frontier(triangles, s);
     init_labels(s);
 }
 
 // the whole stage
-pub fn peel(triangles: &[u16], s: &mut [i64], n: usize)
+pub fn peel(n: usize, triangles: &[u16], s: &mut [i64])
     requires { ⌜ Room (now triangles) (length (now s)) × HasVertices n (length (now s)) ⌝ }
     ensures { λ r. ⌜ tablesOf (now (s .exit)) ≡ peelTables (now (triangles .entry)) n (tablesOf (now (s .entry))) ⌝ }
 {
-    init(triangles, s, n);
-    remove_all(triangles, s, n);
+    init(n, triangles, s);
+    remove_all(n, triangles, s);
 }

@@ -128,7 +128,7 @@ fn mark_outgoing(triangles: &[u16], s: &mut [i64], v: usize) -> bool
 }
 
 // A side of a vertex u or later is there twice.
-fn duplicate_side(u: usize, n: usize, triangles: &[u16], s: &mut [i64]) -> bool
+fn duplicate_side(n: usize, triangles: &[u16], s: &mut [i64], u: usize) -> bool
     requires { ⌜ Ready (now triangles) (now s) n ⌝ }
     ensures { λ r. ⌜ Scanned (now (triangles .entry)) u n (now (s .entry)) (now (s .exit)) r ⌝ }
 {
@@ -192,7 +192,7 @@ pub fn match_sides(n: usize, triangles: &[u16], s: &mut [i64]) -> usize
             return 5;
         }
         if match_incoming(triangles, s, v) {
-            if duplicate_side(v + 1, n, triangles, s) {
+            if duplicate_side(n, triangles, s, v + 1) {
                 return 5;
             }
             return 6;

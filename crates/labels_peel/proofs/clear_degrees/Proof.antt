@@ -8,10 +8,10 @@ use Rattle.labels_peel.proofs.clear_degrees.Statement.{statement}
 use Rattle.labels_peel.proofs.clear_degrees.Tie as tie
 
 abbrev Inv-loop : tie.InvT-loop
-Inv-loop s₀ n v₀ s v = Wiped n s₀ s v
+Inv-loop n s₀ v₀ s v = Wiped n s₀ s v
 
 abbrev μ-loop : tie.MeasureT-loop
-μ-loop s₀ n v₀ s v = n - v
+μ-loop n s₀ v₀ s v = n - v
 
 loop-holds : tie.Need-loop-holds Inv-loop μ-loop
 loop-holds c = wiped-none (c .args .n) (c .args .s .now)

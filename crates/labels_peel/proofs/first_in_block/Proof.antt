@@ -1,42 +1,48 @@
--- `labels_peel::first_in_block` meets its contract. Assumes nothing.
+-- `labels_peel::first_in_block` meets its contract: the block's vertices from its bound on are looked at in turn. Assumes nothing.
 use native.Mathlib.Omega.{arith}
-use Rattle.labels_peel.specs.LoopLaws.{look-in, look-past}
+use mathlib.Core.Path.{refl}
+use Rattle.scratch_tables.specs.Tables.{tablesOf}
+use Rattle.labels_peel.specs.LoopLaws.{below-holds, scanned, block-found, block-passed}
 use borrow.Author.Needs.{needs}
 use Rattle.labels_peel.proofs.first_in_block.Statement.{statement}
 use Rattle.labels_peel.proofs.first_in_block.Tie as tie
 
-block-bound-requires : tie.Need-block-bound-requires
-block-bound-requires c κs = omega (arith, c .before .before .pre .1, c .before .before .pre .0 .small)
+-- where the search in the block ended
+sub-set-block-bound : tie.Need-sub-set-block-bound
+sub-set-block-bound c =
+    let end : tie.After-smaller = search in
+    let found : tie.After-first-in-range = search in
+    let at = scanned _ _ _ (tablesOf _) _ _ _ _ (end .smaller .ensures) (search) refl (found .first-in-range .ensures) in
+    omega (arith, at .least)
 
-search-block-requires : tie.Need-search-block-requires
-search-block-requires c κs = (
-  c .before .before .before .before .before .pre .0,
-  c .before .before .before .before .before .pre .1,
-  omega (arith, c .before .before .block-bound .ensures .0, c .before .if1 .taken),
-)
-
-same-length : tie.Need-same-length
-same-length c = search needs
+set-block-bound-requires : tie.Need-set-block-bound-requires
+set-block-bound-requires c κs =
+    let end : tie.After-smaller = search in
+    let found : tie.After-first-in-range = search in
+    let at = scanned _ _ _ (tablesOf _) _ _ _ _ (end .smaller .ensures) (search) refl (found .first-in-range .ensures) in
+    (search below-holds, omega (arith, at .most))
 
 returns : tie.Need-returns
-returns c = look-in _ (c .before .before .before .before .before .before .before .args .n)
-    (c .before .before .before .before .before .before .before .args .b) _ (c .before .before .before .before .block-bound .result) _
-    (c .before .before .before .before .block-bound .ensures .0) (c .before .before .before .if1 .taken) (c .before .search-block .ensures)
-
-same-length-2 : tie.Need-same-length-2
-same-length-2 c = search needs
+returns c = search (tablesOf, block-passed)
 
 returns-2 : tie.Need-returns-2
-returns-2 c = look-past _ (c .before .before .before .before .args .n) (c .before .before .before .before .args .b) _ (c .before .block-bound .result)
-    (c .before .block-bound .ensures .0) (c .if1 .left)
+returns-2 c = search (tablesOf, block-found)
 
 pub first-in-block-spec : {M : Type 1} → statement M
 first-in-block-spec =
     tie.close
     (tie.spec
-    block-bound-requires
-    search-block-requires
-    same-length
+    (λ c κs. search needs)
+    (λ c. search needs)
     returns
-    same-length-2
+    (λ c. search needs)
+    (λ c. search needs)
+    (λ c κs. search needs)
+    (λ c. search needs)
+    (λ c. search needs)
+    (λ c κs. search needs)
+    (λ c. search needs)
+    sub-set-block-bound
+    set-block-bound-requires
+    (λ c. search needs)
     returns-2)

@@ -8,10 +8,10 @@ use Rattle.labels_peel.proofs.first_in_blocks.Statement.{statement}
 use Rattle.labels_peel.proofs.first_in_blocks.Tie as tie
 
 abbrev Inv-loop : tie.InvT-loop
-Inv-loop triangles s₀ n end from b₀ s b = Finding triangles n end from s₀ s b
+Inv-loop n triangles s₀ end from b₀ s b = Finding triangles n end from s₀ s b
 
 abbrev μ-loop : tie.MeasureT-loop
-μ-loop triangles s₀ n end from b₀ s b = end - b
+μ-loop n triangles s₀ end from b₀ s b = end - b
 
 loop-holds : tie.Need-loop-holds Inv-loop μ-loop
 loop-holds c = record { long = refl; rest = refl }
@@ -42,7 +42,7 @@ smaller-requires : tie.Need-smaller-requires Inv-loop μ-loop
 smaller-requires c κs = search needs
 
 same-length : tie.Need-same-length Inv-loop μ-loop
-same-length c = c .before .before .before .first-in-block .kept .1 .0 ∙ c .before .before .before .before .before .before .loop .inv .long
+same-length c = c .before .before .before .first-in-block .kept .1 .1 .0 ∙ c .before .before .before .before .before .before .loop .inv .long
 
 returns : tie.Need-returns Inv-loop μ-loop
 returns c = find-over _ (c .before .before .before .before .before .before .before .before .args .n)
@@ -64,7 +64,7 @@ loop-less c = omega (arith, c .before .before .before .before .before .loop-test
 
 loop-again : tie.Need-loop-again Inv-loop μ-loop
 loop-again c = record {
-  long = c .before .before .before .first-in-block .kept .1 .0 ∙ c .before .before .before .before .before .before .loop .inv .long;
+  long = c .before .before .before .first-in-block .kept .1 .1 .0 ∙ c .before .before .before .before .before .before .loop .inv .long;
   rest = find-more _ (c .before .before .before .before .before .before .before .before .args .n)
       (c .before .before .before .before .before .before .before .before .args .end) (c .before .before .before .before .before .before .loop .b)
       (c .before .before .before .first-in-block .result) (c .before .smaller .result) _ _ _ (c .before .before .before .before .before .loop-test .taken)

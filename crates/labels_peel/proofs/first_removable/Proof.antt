@@ -7,10 +7,10 @@ use Rattle.labels_peel.proofs.first_removable.Statement.{statement}
 use Rattle.labels_peel.proofs.first_removable.Tie as tie
 
 abbrev Inv-loop : tie.InvT-loop
-Inv-loop triangles s₀ n from groups g₀ s g = Seeking triangles n groups from s₀ s g
+Inv-loop n triangles s₀ from groups g₀ s g = Seeking triangles n groups from s₀ s g
 
 abbrev μ-loop : tie.MeasureT-loop
-μ-loop triangles s₀ n from groups g₀ s g = groups - g
+μ-loop n triangles s₀ from groups g₀ s g = groups - g
 
 add-groups : tie.Need-add-groups Inv-loop μ-loop
 add-groups c = omega (arith, c .before .pre .0 .small)
@@ -25,7 +25,7 @@ first-in-group-requires c κs = (
 )
 
 same-length : tie.Need-same-length Inv-loop μ-loop
-same-length c = c .before .before .first-in-group .kept .1 .0 ∙ c .before .before .before .before .before .loop .inv .long
+same-length c = c .before .before .first-in-group .kept .1 .1 .0 ∙ c .before .before .before .before .before .loop .inv .long
 
 returns : tie.Need-returns Inv-loop μ-loop
 returns c = seek-over _ (c .before .before .before .before .before .before .before .args .n)
@@ -41,7 +41,7 @@ loop-less c = omega (arith, c .before .before .before .before .loop-test .taken)
 
 loop-again : tie.Need-loop-again Inv-loop μ-loop
 loop-again c = record {
-  long = c .before .before .first-in-group .kept .1 .0 ∙ c .before .before .before .before .before .loop .inv .long;
+  long = c .before .before .first-in-group .kept .1 .1 .0 ∙ c .before .before .before .before .before .loop .inv .long;
   rest = seek-more _ (c .before .before .before .before .before .before .before .args .n)
       (c .before .before .before .before .before .before .before .args .n / 256 + 1) (c .before .before .before .before .before .loop .g)
       (c .before .before .first-in-group .result) _ _ _ (c .before .before .before .before .loop-test .taken) (c .before .before .first-in-group .ensures)

@@ -10,10 +10,10 @@ clear-degrees-requires : tie.Need-clear-degrees-requires
 clear-degrees-requires c κs = search needs
 
 init-degrees-requires : tie.Need-init-degrees-requires
-init-degrees-requires c κs = room-kept (c .before .before .clear-degrees .kept .0) (c .before .before .before .before .before .pre .0)
+init-degrees-requires c κs = room-kept (c .before .before .clear-degrees .kept .1 .0) (c .before .before .before .before .before .pre .0)
 
 init-frontier-requires : tie.Need-init-frontier-requires
-init-frontier-requires c κs = room-kept (c .before .before .init-degrees .kept .1 .0 ∙ c .before .before .before .before .before .clear-degrees .kept .0)
+init-frontier-requires c κs = room-kept (c .before .before .init-degrees .kept .1 .0 ∙ c .before .before .before .before .before .clear-degrees .kept .1 .0)
     (c .before .before .before .before .before .before .before .before .pre .0)
 
 init-labels-requires : tie.Need-init-labels-requires
@@ -21,7 +21,7 @@ init-labels-requires c κs = omega (
   arith,
   c .before .before .init-frontier .kept .1 .0,
   c .before .before .before .before .before .init-degrees .kept .1 .0,
-  c .before .before .before .before .before .before .before .before .clear-degrees .kept .0,
+  c .before .before .before .before .before .before .before .before .clear-degrees .kept .1 .0,
   c .before .before .before .before .before .before .before .before .before .before .before .pre .0 .vertices 0 .room,
 )
 

@@ -9,8 +9,8 @@ init-requires c κs = search needs
 
 remove-all-requires : tie.Need-remove-all-requires
 remove-all-requires c κs = (
-  room-kept (c .before .before .init .kept .1 .0) (c .before .before .before .before .before .pre .0),
-  wide-kept (c .before .before .init .kept .1 .0) (c .before .before .before .before .before .pre .1),
+  room-kept (c .before .before .init .kept .1 .1 .0) (c .before .before .before .before .before .pre .0),
+  wide-kept (c .before .before .init .kept .1 .1 .0) (c .before .before .before .before .before .pre .1),
 )
 
 same-length : tie.Need-same-length

@@ -7,10 +7,10 @@ use Rattle.labels_peel.proofs.remove_all.Statement.{statement}
 use Rattle.labels_peel.proofs.remove_all.Tie as tie
 
 abbrev Inv-loop : tie.InvT-loop
-Inv-loop triangles s₀ n i₀ s i = Turning triangles n s₀ s i
+Inv-loop n triangles s₀ i₀ s i = Turning triangles n s₀ s i
 
 abbrev μ-loop : tie.MeasureT-loop
-μ-loop triangles s₀ n i₀ s i = n - i
+μ-loop n triangles s₀ i₀ s i = n - i
 
 loop-holds : tie.Need-loop-holds Inv-loop μ-loop
 loop-holds c = turning-none _ (c .before .args .n) (c .before .args .s .now)
@@ -33,7 +33,7 @@ loop-less c = omega (arith, c .before .before .before .loop-test .taken)
 
 loop-again : tie.Need-loop-again Inv-loop μ-loop
 loop-again c = record {
-  long = c .before .remove-next .kept .1 .0 ∙ c .before .before .before .before .loop .inv .long;
+  long = c .before .remove-next .kept .1 .1 .0 ∙ c .before .before .before .before .loop .inv .long;
   within = omega (arith, c .before .before .before .loop-test .taken);
   rest = all-more _ (c .before .before .before .before .before .before .args .n) (c .before .before .before .before .loop .i) _ _ _
       (c .before .before .before .loop-test .taken) (c .before .remove-next .ensures) (c .before .before .before .before .loop .inv .rest);

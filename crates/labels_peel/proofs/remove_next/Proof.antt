@@ -14,7 +14,7 @@ first-removable-requires c κs = search needs
 
 set-global-bound-requires : tie.Need-set-global-bound-requires
 set-global-bound-requires c κs = (
-  holds-kept (c .before .before .before .first-removable .kept .1 .0)
+  holds-kept (c .before .before .before .first-removable .kept .1 .1 .0)
       (below-holds 0 (c .before .before .before .before .before .before .before .before .pre .1)
       (omega (arith, c .before .before .before .before .before .before .before .before .pre .2))),
   omega (arith, c .before .if1 .taken, c .before .before .before .before .before .before .before .before .pre .1 .small),
@@ -22,7 +22,7 @@ set-global-bound-requires c κs = (
 
 remove-vertex-requires : tie.Need-remove-vertex-requires
 remove-vertex-requires c κs = let k = c .before .before .set-global-bound .kept .0
-    ∙ c .before .before .before .before .before .before .first-removable .kept .1 .0 in (
+    ∙ c .before .before .before .before .before .before .first-removable .kept .1 .1 .0 in (
       room-kept k (c .before .before .before .before .before .before .before .before .before .before .before .pre .0),
       holds-kept k (below-holds (c .before .before .before .before .before .before .before .before .before .before .before .args .i)
           (c .before .before .before .before .before .before .before .before .before .before .before .pre .1)

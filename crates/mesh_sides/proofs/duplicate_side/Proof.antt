@@ -9,10 +9,10 @@ use Rattle.mesh_sides.proofs.duplicate_side.Statement.{statement}
 use Rattle.mesh_sides.proofs.duplicate_side.Tie as tie
 
 abbrev Inv-loop : tie.InvT-loop
-Inv-loop u n triangles s₀ v₀ s v = Scanning triangles u n s₀ s v
+Inv-loop n triangles s₀ u v₀ s v = Scanning triangles u n s₀ s v
 
 abbrev μ-loop : tie.MeasureT-loop
-μ-loop u n triangles s₀ v₀ s v = n - v
+μ-loop n triangles s₀ u v₀ s v = n - v
 
 loop-holds : tie.Need-loop-holds Inv-loop μ-loop
 loop-holds c = scanning-start (c .before .args .triangles .now) (c .before .args .u) (c .before .args .n) (c .before .args .s .now)

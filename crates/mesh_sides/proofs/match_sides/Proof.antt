@@ -53,7 +53,7 @@ match-incoming-requires c κs = (
 )
 
 add-duplicate-side : tie.Need-add-duplicate-side Inv-loop μ-loop
-add-duplicate-side c = omega (arith, c .before .before .before .before .before .before .before .before .loop-test .taken)
+add-duplicate-side c = omega arith
 
 duplicate-side-requires : tie.Need-duplicate-side-requires Inv-loop μ-loop
 duplicate-side-requires c κs = ready-kept (c .before .before .before .match-incoming .last .1 .0)
@@ -72,7 +72,7 @@ duplicate-side-requires c κs = ready-kept (c .before .before .before .match-inc
     (c .before .before .before .before .before .before .before .before .before .before .loop .inv .same))
 
 same-length-2 : tie.Need-same-length-2 Inv-loop μ-loop
-same-length-2 c = c .before .before .duplicate-side .kept .1 .1 .1 .0 ∙ c .before .before .before .before .before .before .match-incoming .kept .1 .0
+same-length-2 c = c .before .before .duplicate-side .kept .1 .1 .0 ∙ c .before .before .before .before .before .before .match-incoming .kept .1 .0
     ∙ c .before .before .before .before .before .before .before .before .before .before .mark-outgoing .kept .1 .0
     ∙ c .before .before .before .before .before .before .before .before .before .before .before .before .before .loop .inv .long
 
@@ -93,11 +93,11 @@ returns-2 c =
     (c .before .before .before .before .before .before .match-incoming .last .1 .0)
     (c .before .before .before .before .before .before .match-incoming .result)
     (c .before .before .before .before .before .before .match-incoming .ensures) (c .before .before .before .before .if2 .taken)
-    (c .before .before .duplicate-side .last .1 .1 .1 .0) (c .before .before .duplicate-side .result) (c .before .before .duplicate-side .ensures)
-    (c .if3 .taken) (c .before .before .duplicate-side .last .1 .1 .1 .0)
+    (c .before .before .duplicate-side .last .1 .1 .0) (c .before .before .duplicate-side .result) (c .before .before .duplicate-side .ensures)
+    (c .if3 .taken) (c .before .before .duplicate-side .last .1 .1 .0)
 
 same-length-3 : tie.Need-same-length-3 Inv-loop μ-loop
-same-length-3 c = c .before .before .duplicate-side .kept .1 .1 .1 .0 ∙ c .before .before .before .before .before .before .match-incoming .kept .1 .0
+same-length-3 c = c .before .before .duplicate-side .kept .1 .1 .0 ∙ c .before .before .before .before .before .before .match-incoming .kept .1 .0
     ∙ c .before .before .before .before .before .before .before .before .before .before .mark-outgoing .kept .1 .0
     ∙ c .before .before .before .before .before .before .before .before .before .before .before .before .before .loop .inv .long
 
@@ -118,8 +118,8 @@ returns-3 c =
     (c .before .before .before .before .before .before .match-incoming .last .1 .0)
     (c .before .before .before .before .before .before .match-incoming .result)
     (c .before .before .before .before .before .before .match-incoming .ensures) (c .before .before .before .before .if2 .taken)
-    (c .before .before .duplicate-side .last .1 .1 .1 .0) (c .before .before .duplicate-side .result) (c .before .before .duplicate-side .ensures)
-    (c .if3 .left) (c .before .before .duplicate-side .last .1 .1 .1 .0)
+    (c .before .before .duplicate-side .last .1 .1 .0) (c .before .before .duplicate-side .result) (c .before .before .duplicate-side .ensures)
+    (c .if3 .left) (c .before .before .duplicate-side .last .1 .1 .0)
 
 add-v : tie.Need-add-v Inv-loop μ-loop
 add-v c = omega (arith, c .before .before .before .before .before .before .before .before .loop-test .taken)
