@@ -73,12 +73,6 @@ fn clear_marks(s: &mut [i64], m: usize)
     }
 }
 
-fn predecessor(x: usize) -> usize
-    ensures { λ r. ⌜ r ≡ x - 1 ⌝ }
-{
-    if x == 0 { 0 } else { x - 1 }
-}
-
 // t is one of m triangles, and not reached yet.
 fn is_unreached(s: &[i64], m: usize, t: usize) -> bool
     ensures { λ r. ⌜ r ≡ (ltb t m && eqb (tablesOf (now (s .entry)) .mark t) 0) ⌝ }
@@ -116,7 +110,7 @@ fn pop_triangle(s: &mut [i64], m: usize, top: usize) -> usize
     let t = top - 1;
     if t < m {
         let link = get_mark(s, t);
-        let below = predecessor(link);
+        let below = int64::saturating_sub(link, 1);
         let a = push_neighbour(s, m, 3 * t, below);
         let b = push_neighbour(s, m, 3 * t + 1, a);
         push_neighbour(s, m, 3 * t + 2, b)

@@ -8,19 +8,13 @@ ghost use lib.IntN.{pos};
 ghost use Rattle.definitions.specs.Mesh.{org, tip, next, prev};
 ghost use Rattle.scratch_tables.specs.Tables.{pastDarts, countStart, markStart, toNatural, wordAt, dartIn, vertexIn, markIn, markAt, tablesOf, setOp, setHead, setCount, setMark, withOp, blank, Cleared};
 
-fn widen(x: u16) -> usize
-    ensures { λ r. ⌜ (r ≡ x) × (r < 65536) ⌝ }
-{
-    x as usize
-}
-
 // the origin of dart d
 pub fn origin(triangles: &[u16], d: usize) -> usize
     ensures is { λ r. ⌜ r ≡ org (now (triangles .entry)) d ⌝ }
     ensures small { λ r. ⌜ r < 65536 ⌝ }
 {
     if d < triangles.len() {
-        widen(triangles[d])
+        int64::widen(triangles[d])
     } else {
         0
     }

@@ -18,18 +18,23 @@ loop-holds : tie.Need-loop-holds Inv-loop μ-loop
 loop-holds c = writing-none _ (c .before .args .labels .now)
 
 add-label-of : tie.Need-add-label-of Inv-loop μ-loop
-add-label-of c = omega (arith, c .loop-test .taken, c .before .loop .inv .long, c .before .before .before .good .1 .0 .1)
+add-label-of c =
+    let start : tie.Start Inv-loop μ-loop = search in
+    omega (arith, c .loop-test .taken, c .before .loop .inv .long, start .good .1 .0 .1)
 
 label-of-requires : tie.Need-label-of-requires Inv-loop μ-loop
 label-of-requires c κs = search needs
 
 cast-labels : tie.Need-cast-labels Inv-loop μ-loop
-cast-labels c = omega (
-  arith,
-  c .label-of .ensures,
-  c .before .before .before .before .pre (c .before .before .loop .i)
-      (omega (arith, c .before .loop-test .taken, c .before .before .loop .inv .long)),
-)
+cast-labels c =
+    let start : tie.Start Inv-loop μ-loop = search in
+    let at-loop : tie.At-loop Inv-loop μ-loop = search in
+    omega (
+      arith,
+      c .label-of .ensures,
+      start .pre (at-loop .loop .i)
+          (omega (arith, c .before .loop-test .taken, at-loop .loop .inv .long)),
+    )
 
 slice-write-labels : tie.Need-slice-write-labels Inv-loop μ-loop
 slice-write-labels c = search needs
@@ -38,11 +43,16 @@ add-i : tie.Need-add-i Inv-loop μ-loop
 add-i c = search needs
 
 loop-less : tie.Need-loop-less Inv-loop μ-loop
-loop-less c = omega (arith, c .before .loop-test .taken, c .before .before .loop .inv .long)
+loop-less c =
+    let at-loop : tie.At-loop Inv-loop μ-loop = search in
+    omega (arith, c .before .loop-test .taken, at-loop .loop .inv .long)
 
 loop-again : tie.Need-loop-again Inv-loop μ-loop
-loop-again c = writing-more _ (c .before .before .before .before .args .labels .now) (c .before .before .loop .labels) (c .before .before .loop .i)
-    (c .label-of .result) (c .before .loop-test .taken) (c .label-of .ensures) (c .before .before .loop .inv)
+loop-again c =
+    let start : tie.Start Inv-loop μ-loop = search in
+    let at-loop : tie.At-loop Inv-loop μ-loop = search in
+    writing-more _ (start .args .labels .now) (at-loop .loop .labels) (at-loop .loop .i)
+    (c .label-of .result) (c .before .loop-test .taken) (c .label-of .ensures) (at-loop .loop .inv)
 
 same-length : tie.Need-same-length Inv-loop μ-loop
 same-length c = c .before .loop .inv .long

@@ -33,7 +33,9 @@ loop-again : tie.Need-loop-again Inv-loop μ-loop
 loop-again c = search (tablesOf, downs-more, needs)
 
 returns : tie.Need-returns Inv-loop μ-loop
-returns c = let a = c .before .before .before .args in let l = c .before .loop in
+returns c =
+    let start : tie.Start Inv-loop μ-loop = search in
+    let a = start .args in let l = c .before .loop in
     let e : l .k ≡ a .n - 2 = omega (arith, c .loop-test .left, l .inv .2) in
     l .inv .0 ∙ ap (λ (j : ℕ). accumulateAll (a .triangles .now) (tablesOf (a .scratch .now)) (a .weights .now) j (a .coordinates .now)) e
 

@@ -9,13 +9,20 @@ use Rattle.maps_forward.proofs.add.Statement.{statement}
 use Rattle.maps_forward.proofs.add.Tie as tie
 
 plus-requires : tie.Need-plus-requires
-plus-requires c κs = let x = c .before .before .at in let y = c .at2 in
+plus-requires c κs =
+    let after-at : tie.After-at = search in
+    let x = after-at .at in let y = c .at2 in
     rw (held (x .result) (x .ok), held (y .result) (y .ok), x .ensures, y .ensures) (search)
 
 returns : tie.Need-returns
-returns c = let a = c .before .before .before .before .before .before .before .before .args in
-    let x = c .before .before .before .before .before .before .at in let y = c .before .before .before .before .at2 in
-    let z = c .before .before .before .plus in
+returns c =
+    let start : tie.Start = search in
+    let after-at : tie.After-at = search in
+    let after-at2 : tie.After-at2 = search in
+    let after-plus : tie.After-plus = search in
+    let a = start .args in
+    let x = after-at .at in let y = after-at2 .at2 in
+    let z = after-plus .plus in
     added (a .to) (a .from) (a .s .now) (c .before .store .last .0) (x .result) (y .result) (z .result) (x .ensures) (y .ensures)
     (z .ensures .0 ∙ ap₂ _+ℤ_ (held (x .result) (x .ok)) (held (y .result) (y .ok)))
     (c .before .store .ensures ∙ ap (set (a .s .now) (a .to)) (held (z .result) (z .ok)))

@@ -27,20 +27,29 @@ sub-removed-vertex-2 : tie.Need-sub-removed-vertex-2 Inv-loop μ-loop
 sub-removed-vertex-2 c = omega (arith, c .loop-test .taken)
 
 propagate-requires : tie.Need-propagate-requires Inv-loop μ-loop
-propagate-requires c κs = let l = c .before .before .before .loop in
+propagate-requires c κs =
+    let at-loop : tie.At-loop Inv-loop μ-loop = search in
+    let l = at-loop .loop in
     up-room _ _ (tablesOf _) (l .k) _ _ (l .coordinates) (search) (search) (search) (l .inv .0)
     (c .before .removed-vertex .ensures .0 ∙ up-index _ (l .k) (tablesOf _) (search))
 
 loop-again : tie.Need-loop-again Inv-loop μ-loop
-loop-again c = let a = c .before .before .before .before .before .before .before .args in let l = c .before .before .before .before .before .loop in (
-  ups-more _ (tablesOf _) (a .n - 2) (l .k) _ _ (l .coordinates) _ (l .inv .0)
-      (c .before .before .before .removed-vertex .ensures .0 ∙ up-index _ (l .k) (tablesOf _) (search)) (search),
-  omega (arith, c .before .propagate .kept, l .inv .1),
-  omega (arith, c .before .before .before .before .loop-test .taken),
-)
+loop-again c =
+    let start : tie.Start Inv-loop μ-loop = search in
+    let at-loop : tie.At-loop Inv-loop μ-loop = search in
+    let in-loop : tie.In-loop Inv-loop μ-loop = search in
+    let after-removed-vertex : tie.After-removed-vertex Inv-loop μ-loop = search in
+    let a = start .args in let l = at-loop .loop in (
+      ups-more _ (tablesOf _) (a .n - 2) (l .k) _ _ (l .coordinates) _ (l .inv .0)
+          (after-removed-vertex .removed-vertex .ensures .0 ∙ up-index _ (l .k) (tablesOf _) (search)) (search),
+      omega (arith, c .before .propagate .kept, l .inv .1),
+      omega (arith, in-loop .loop-test .taken),
+    )
 
 returns : tie.Need-returns Inv-loop μ-loop
-returns c = let a = c .before .before .before .args in let l = c .before .loop in
+returns c =
+    let start : tie.Start Inv-loop μ-loop = search in
+    let a = start .args in let l = c .before .loop in
     let e : l .k ≡ a .n - 2 = omega (arith, c .loop-test .left, l .inv .2) in
     l .inv .0 ∙ ap (λ (j : ℕ). propagateAll (a .triangles .now) (tablesOf (a .scratch .now)) (a .n - 2) j (a .coordinates .now)) e
 

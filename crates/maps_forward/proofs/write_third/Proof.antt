@@ -11,9 +11,12 @@ use Rattle.maps_forward.proofs.write_third.Statement.{statement}
 use Rattle.maps_forward.proofs.write_third.Tie as tie
 
 minus-requires : tie.Need-minus-requires
-minus-requires c κs = let b0 = held (c .before .before .coordinate-of .result) (c .before .before .coordinate-of .ok)
-    ∙ c .before .before .coordinate-of .ensures in
-    rw (toZ-ofZ (c .before .before .before .before .fits .total), b0) (omega arith)
+minus-requires c κs =
+    let start : tie.Start = search in
+    let after-coordinate-of : tie.After-coordinate-of = search in
+    let b0 = held (after-coordinate-of .coordinate-of .result) (after-coordinate-of .coordinate-of .ok)
+    ∙ after-coordinate-of .coordinate-of .ensures in
+    rw (toZ-ofZ (start .fits .total), b0) (omega arith)
 
 minus-requires-2 : tie.Need-minus-requires-2
 minus-requires-2 c κs =

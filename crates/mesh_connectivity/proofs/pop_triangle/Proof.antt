@@ -13,8 +13,8 @@ sub-t c = search needs
 get-mark-requires : tie.Need-get-mark-requires
 get-mark-requires c κs = search needs
 
-predecessor-requires : tie.Need-predecessor-requires
-predecessor-requires c κs = search needs
+saturating-sub-requires : tie.Need-saturating-sub-requires
+saturating-sub-requires c κs = search needs
 
 mul-push-neighbour : tie.Need-mul-push-neighbour
 mul-push-neighbour c = search needs
@@ -60,12 +60,12 @@ returns c = (
       (c .before .before .before .before .before .before .before .before .before .before .before .before .before .args .m)
       (c .before .before .before .before .before .before .before .before .before .before .before .before .before .args .top - 1)
       (c .before .before .before .before .before .before .before .before .before .before .before .before .before .args .top)
-      (c .before .before .before .before .before .before .before .before .before .predecessor .result)
+      (c .before .before .before .before .before .before .before .before .before .saturating-sub .result)
       (c .before .before .before .before .before .before .before .push-neighbour .result) (c .before .before .before .before .push-neighbour2 .result)
       (c .before .push-neighbour3 .result)
       (c .before .before .before .before .before .before .before .before .before .before .before .before .before .pre .1) refl
       (c .before .before .before .before .before .before .before .before .before .before .before .before .if1 .taken)
-      (c .before .before .before .before .before .before .before .before .before .predecessor .ensures
+      (c .before .before .before .before .before .before .before .before .before .saturating-sub .ensures .0
       ∙ ap (λ x. x - 1) (c .before .before .before .before .before .before .before .before .before .before .get-mark .ensures .0))
       (c .before .before .before .before .before .before .before .push-neighbour .ensures .0) (c .before .before .before .before .push-neighbour2 .ensures .0)
       (c .before .push-neighbour3 .ensures .0),
@@ -81,7 +81,7 @@ pop-triangle-spec =
     (tie.spec
     sub-t
     get-mark-requires
-    predecessor-requires
+    saturating-sub-requires
     mul-push-neighbour
     push-neighbour-requires
     mul-push-neighbour-2

@@ -19,15 +19,20 @@ unfolding upward
 loop-holds c = (omega arith, record { long = refl; is = refl })
 
 add-size-requires : tie.Need-add-size-requires Inv-loop μ-loop
-add-size-requires c κs = let a = c .before .before .before .args in let l = c .before .before .loop in
-    let P = up-passable (addSize (a .colour)) (a .scratch .now) (l .scratch) (l .k) (l .inv .1) (a .n) (odd-add (a .colour)) (c .before .before .before .pre) in
+add-size-requires c κs =
+    let start : tie.Start Inv-loop μ-loop = search in
+    let at-loop : tie.At-loop Inv-loop μ-loop = search in
+    let a = start .args in let l = at-loop .loop in
+    let P = up-passable (addSize (a .colour)) (a .scratch .now) (l .scratch) (l .k) (l .inv .1) (a .n) (odd-add (a .colour)) (start .pre) in
     (omega (arith, P .few, c .before .loop-test .taken), omega (arith, parent-low (a .colour) (l .k) P (c .before .loop-test .taken), P .room))
 
 loop-again : tie.Need-loop-again Inv-loop μ-loop
 loop-again c = search (addSize, up-next, needs)
 
 returns : tie.Need-returns Inv-loop μ-loop
-returns c = let e : c .before .loop .k ≡ c .before .before .args .n - 2 = omega (arith, c .before .loop .inv .0, c .loop-test .left) in
+returns c =
+    let start : tie.Start Inv-loop μ-loop = search in
+    let e : c .before .loop .k ≡ start .args .n - 2 = omega (arith, c .before .loop .inv .0, c .loop-test .left) in
     rw e at (c .before .loop .inv .1 .is)
 
 pub accumulate-sizes-spec : {M : Type 1} → statement M

@@ -20,8 +20,11 @@ sub-k-2 : tie.Need-sub-k-2 Inv-loop μ-loop
 sub-k-2 c = c .loop-test .taken
 
 allocate-range-requires : tie.Need-allocate-range-requires Inv-loop μ-loop
-allocate-range-requires c κs = let a = c .before .before .before .args in let l = c .before .before .loop in
-    let P = down-passable (allocateRange (a .colour)) (a .n - 2) (a .scratch .now) (l .scratch) (l .k) (l .inv) (a .n) (c .before .before .before .pre) in (
+allocate-range-requires c κs =
+    let start : tie.Start Inv-loop μ-loop = search in
+    let at-loop : tie.At-loop Inv-loop μ-loop = search in
+    let a = start .args in let l = at-loop .loop in
+    let P = down-passable (allocateRange (a .colour)) (a .n - 2) (a .scratch .now) (l .scratch) (l .k) (l .inv) (a .n) (start .pre) in (
       omega (arith, P .few, l .inv .low),
       omega (arith, P .removed (l .k - 1) (omega (arith, l .inv .low, c .before .loop-test .taken)), P .room),
       omega (arith, parent-low (a .colour) (l .k - 1) P (omega (arith, l .inv .low, c .before .loop-test .taken)), P .room),
@@ -31,7 +34,9 @@ loop-again : tie.Need-loop-again Inv-loop μ-loop
 loop-again c = search (allocateRange, down-next, odd-takes)
 
 returns : tie.Need-returns Inv-loop μ-loop
-returns c = let a = c .before .before .args in let l = c .before .loop in
+returns c =
+    let start : tie.Start Inv-loop μ-loop = search in
+    let a = start .args in let l = c .before .loop in
     down-ends (allocateRange _) (a .n - 2) _ (l .scratch) (l .k) (l .inv) (omega (arith, c .loop-test .left))
 
 pub allocate-ranges-spec : {M : Type 1} → statement M

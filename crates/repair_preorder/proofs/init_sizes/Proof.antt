@@ -23,7 +23,9 @@ unfolding initSize
 loop-again c = search (initSize, up-next, needs)
 
 returns : tie.Need-returns Inv-loop μ-loop
-returns c = let e : c .before .loop .v ≡ c .before .before .args .n = omega arith in rw e at (c .before .loop .inv .1 .is)
+returns c =
+    let start : tie.Start Inv-loop μ-loop = search in
+    let e : c .before .loop .v ≡ start .args .n = omega arith in rw e at (c .before .loop .inv .1 .is)
 
 pub init-sizes-spec : {M : Type 1} → statement M
 init-sizes-spec =

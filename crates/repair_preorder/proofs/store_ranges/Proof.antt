@@ -22,7 +22,9 @@ loop-again : tie.Need-loop-again Inv-loop μ-loop
 loop-again c = search (storeRange, up-next, needs)
 
 returns : tie.Need-returns Inv-loop μ-loop
-returns c = let e : c .before .loop .t ≡ 2 * c .before .before .args .n - 4 = omega (arith, c .before .loop .inv .1, c .loop-test .left) in
+returns c =
+    let start : tie.Start Inv-loop μ-loop = search in
+    let e : c .before .loop .t ≡ 2 * start .args .n - 4 = omega (arith, c .before .loop .inv .1, c .loop-test .left) in
     rw e at (c .before .loop .inv .2 .is)
 
 pub store-ranges-spec : {M : Type 1} → statement M

@@ -22,7 +22,9 @@ loop-again : tie.Need-loop-again Inv-loop μ-loop
 loop-again c = search (storeVertex, up-next, needs)
 
 returns : tie.Need-returns Inv-loop μ-loop
-returns c = let e : c .before .loop .k ≡ c .before .before .args .n - 2 = omega (arith, c .before .loop .inv .0, c .loop-test .left) in
+returns c =
+    let start : tie.Start Inv-loop μ-loop = search in
+    let e : c .before .loop .k ≡ start .args .n - 2 = omega (arith, c .before .loop .inv .0, c .loop-test .left) in
     rw e at (c .before .loop .inv .1 .is)
 
 pub store-vertices-spec : {M : Type 1} → statement M

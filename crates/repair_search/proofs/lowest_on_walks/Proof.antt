@@ -27,7 +27,9 @@ loop-again : tie.Need-loop-again Inv-loop μ-loop
 loop-again c = search (tablesOf, badAt, walks-next)
 
 returns-3 : tie.Need-returns-3 Inv-loop μ-loop
-returns-3 c = let a = c .before .before .before .args in
+returns-3 c =
+    let start : tie.Start Inv-loop μ-loop = search in
+    let a = start .args in
     walks-stop (tablesOf (a .scratch .now)) (badAt (tablesOf (a .scratch .now)) (a .coordinates .now)) (a .steps) (a .full) (a .t) (c .before .loop .k)
     (c .before .loop .a) (c .before .loop .b) (c .before .loop .d) (c .before .loop .r) (c .before .loop .inv) (omega (arith, c .loop-test .left))
 

@@ -11,10 +11,12 @@ use Rattle.repair_update.proofs.add_at.Statement.{statement}
 use Rattle.repair_update.proofs.add_at.Tie as tie
 
 returns : tie.Need-returns
-returns c = let a = c .before .before .args in
+returns c =
+    let start : tie.Start = search in
+    let a = start .args in
     let f : SFits w64 (getD (a .numbers .now) (a .i) (pos 0)) = record { sfits = c .before .plus-arg .given } in
     ap (λ (z : ℤ). set (a .numbers .now) (a .i) z) (held (c .plus .result) (c .plus .ok) ∙ c .plus .ensures .0
-    ∙ ap₂ _+ℤ_ (toZ-ofZ f) (toZ-ofZ (c .before .before .fits .x)))
+    ∙ ap₂ _+ℤ_ (toZ-ofZ f) (toZ-ofZ (start .fits .x)))
 
 pub add-at-spec : {M : Type 1} → statement M
 add-at-spec =

@@ -20,18 +20,24 @@ loop-holds : tie.Need-loop-holds Inv-loop μ-loop
 loop-holds c = search (rowing-none, toZ-ofZ, w64, toZ, ofZ)
 
 mul-add-at : tie.Need-mul-add-at Inv-loop μ-loop
-mul-add-at c = omega (
-  arith,
-  rowing-fits (c .before .before .before .loop .inv) (c .before .before .loop-test .taken) (c .before .load .result)
-      (c .before .load .ensures .0),
-)
+mul-add-at c =
+    let at-loop : tie.At-loop Inv-loop μ-loop = search in
+    let in-loop : tie.In-loop Inv-loop μ-loop = search in
+    omega (
+      arith,
+      rowing-fits (at-loop .loop .inv) (in-loop .loop-test .taken) (c .before .load .result)
+          (c .before .load .ensures .0),
+    )
 
 add-add-at : tie.Need-add-add-at Inv-loop μ-loop
-add-add-at c = omega (
-  arith,
-  rowing-fits (c .before .before .before .loop .inv) (c .before .before .loop-test .taken) (c .before .load .result)
-      (c .before .load .ensures .0),
-)
+add-add-at c =
+    let at-loop : tie.At-loop Inv-loop μ-loop = search in
+    let in-loop : tie.In-loop Inv-loop μ-loop = search in
+    omega (
+      arith,
+      rowing-fits (at-loop .loop .inv) (in-loop .loop-test .taken) (c .before .load .result)
+          (c .before .load .ensures .0),
+    )
 
 add-at-requires : tie.Need-add-at-requires Inv-loop μ-loop
 add-at-requires c κs = search (rowing-room, rowing-small)
@@ -40,7 +46,9 @@ loop-again : tie.Need-loop-again Inv-loop μ-loop
 loop-again c = search rowing-next
 
 returns : tie.Need-returns Inv-loop μ-loop
-returns c = rw (toZ-ofZ (c .before .before .fits .x)) at (rowing-all (c .before .loop .inv) (c .loop-test .left))
+returns c =
+    let start : tie.Start Inv-loop μ-loop = search in
+    rw (toZ-ofZ (start .fits .x)) at (rowing-all (c .before .loop .inv) (c .loop-test .left))
 
 pub add-to-range-spec : {M : Type 1} → statement M
 add-to-range-spec =

@@ -13,28 +13,43 @@ returns c = let f = c .before .field3 .ensures in
     none-followed _ _ _ _ (search) (λ e. omega (arith, e, f, c .if1 .taken)) (λ e. omega (arith, e, f, c .if1 .taken))
 
 returns-2 : tie.Need-returns-2
-returns-2 c = let f = c .before .before .field3 .ensures in
+returns-2 c =
+    let after-field3 : tie.After-field3 = search in
+    let f = after-field3 .field3 .ensures in
     none-followed _ _ _ _ (search) (λ e. omega (arith, e, f, c .if2 .taken)) (λ e. omega (arith, e, f, c .if2 .taken))
 
 add-to-range-requires : tie.Need-add-to-range-requires
-add-to-range-requires c κs = let a = c .before .before .before .before .before .before .before .args in
-    let f = c .before .before .before .before .before .before .field3 .result in
-    rw (toZ-ofZ (c .before .before .before .before .before .before .before .fits .x))
-    (subtree-rowable (a .scratch .now) (a .coordinates .now) (a .w) (a .x) (c .before .before .before .before .before .before .before .pre) f
-    (c .before .before .before .preorder-start .result + c .before .before .field1 .result)
-    (c .before .before .before .preorder-start .result + c .before .before .field1 .result + c .field2 .result) (2 - f)
-    (c .before .before .before .before .before .before .field3 .ensures) (c .before .before .before .before .before .if1 .left) (omega arith)
+add-to-range-requires c κs =
+    let start : tie.Start = search in
+    let after-field3 : tie.After-field3 = search in
+    let else1 : tie.Else1 = search in
+    let after-preorder-start : tie.After-preorder-start = search in
+    let after-field1 : tie.After-field1 = search in
+    let a = start .args in
+    let f = after-field3 .field3 .result in
+    rw (toZ-ofZ (start .fits .x))
+    (subtree-rowable (a .scratch .now) (a .coordinates .now) (a .w) (a .x) (start .pre) f
+    (after-preorder-start .preorder-start .result + after-field1 .field1 .result)
+    (after-preorder-start .preorder-start .result + after-field1 .field1 .result + c .field2 .result) (2 - f)
+    (after-field3 .field3 .ensures) (else1 .if1 .left) (omega arith)
     (omega arith) (omega (arith, c .field2 .ensures .0)) refl)
 
 returns-3 : tie.Need-returns-3
-returns-3 c = let a = c .before .before .before .before .before .before .before .before .before .args in
-    let f = c .before .before .before .before .before .before .before .before .field3 .result in
-    subtree-followed (a .scratch .now) (a .coordinates .now) (a .w) (a .x) (c .before .before .before .before .before .before .before .before .before .pre) f
-    (c .before .before .before .before .before .preorder-start .result + c .before .before .before .before .field1 .result)
-    (c .before .before .before .before .before .preorder-start .result + c .before .before .before .before .field1 .result +
-    c .before .before .field2 .result) (2 - f) (c .before .before .before .before .before .before .before .before .field3 .ensures)
-    (c .before .before .before .before .before .before .before .if1 .left) (omega arith) (omega arith) (omega arith) refl
-    (c .before .add-to-range .last .0) (rw (toZ-ofZ (c .before .before .before .before .before .before .before .before .before .fits .x))
+returns-3 c =
+    let start : tie.Start = search in
+    let after-field3 : tie.After-field3 = search in
+    let else1 : tie.Else1 = search in
+    let after-preorder-start : tie.After-preorder-start = search in
+    let after-field1 : tie.After-field1 = search in
+    let after-field2 : tie.After-field2 = search in
+    let a = start .args in
+    let f = after-field3 .field3 .result in
+    subtree-followed (a .scratch .now) (a .coordinates .now) (a .w) (a .x) (start .pre) f
+    (after-preorder-start .preorder-start .result + after-field1 .field1 .result)
+    (after-preorder-start .preorder-start .result + after-field1 .field1 .result +
+    after-field2 .field2 .result) (2 - f) (after-field3 .field3 .ensures)
+    (else1 .if1 .left) (omega arith) (omega arith) (omega arith) refl
+    (c .before .add-to-range .last .0) (rw (toZ-ofZ (start .fits .x))
     at (c .before .add-to-range .ensures .0)) (c .before .add-to-range .ensures .1)
 
 pub add-to-subtree-spec : {M : Type 1} → statement M

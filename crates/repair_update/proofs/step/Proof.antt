@@ -9,16 +9,22 @@ use Rattle.repair_update.proofs.step.Statement.{statement}
 use Rattle.repair_update.proofs.step.Tie as tie
 
 add-to-subtree-requires : tie.Need-add-to-subtree-requires
-add-to-subtree-requires c κs = let a = c .before .before .args in
-    rw (toZ-ofZ (c .before .before .fits .x)) (subst (λ (w : ℕ). Movable (a .scratch .now) (a .coordinates .now) w (a .x)) (cc) (c .before .before .pre .1))
+add-to-subtree-requires c κs =
+    let start : tie.Start = search in
+    let a = start .args in
+    rw (toZ-ofZ (start .fits .x)) (subst (λ (w : ℕ). Movable (a .scratch .now) (a .coordinates .now) w (a .x)) (cc) (start .pre .1))
 
 returns : tie.Need-returns
-returns c = let a = c .before .before .before .before .before .args in (
-  c .field0 .ensures .0 ∙ ap field0 (c .before .before .before .before .walk-at .ensures .0),
-  subst (λ (w : ℕ). Followed (a .scratch .now) w (a .x) (a .coordinates .now) (c .before .before .add-to-subtree .last .0))
-      (c .before .before .before .before .walk-at .ensures .0)
-      (rw (toZ-ofZ (c .before .before .before .before .before .fits .x)) at (c .before .before .add-to-subtree .ensures)),
-)
+returns c =
+    let start : tie.Start = search in
+    let after-walk-at : tie.After-walk-at = search in
+    let after-add-to-subtree : tie.After-add-to-subtree = search in
+    let a = start .args in (
+      c .field0 .ensures .0 ∙ ap field0 (after-walk-at .walk-at .ensures .0),
+      subst (λ (w : ℕ). Followed (a .scratch .now) w (a .x) (a .coordinates .now) (after-add-to-subtree .add-to-subtree .last .0))
+          (after-walk-at .walk-at .ensures .0)
+          (rw (toZ-ofZ (start .fits .x)) at (after-add-to-subtree .add-to-subtree .ensures)),
+    )
 
 pub step-spec : {M : Type 1} → statement M
 step-spec =

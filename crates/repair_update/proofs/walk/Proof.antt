@@ -19,7 +19,10 @@ loop-holds : tie.Need-loop-holds Inv-loop μ-loop
 loop-holds c = search (walking-none, toZ-ofZ, w64, toZ, ofZ)
 
 returns : tie.Need-returns Inv-loop μ-loop
-returns c = rw (toZ-ofZ (c .before .before .before .fits .x)) at (walking-home (c .before .before .loop .inv) (c .if1 .taken))
+returns c =
+    let start : tie.Start Inv-loop μ-loop = search in
+    let at-loop : tie.At-loop Inv-loop μ-loop = search in
+    rw (toZ-ofZ (start .fits .x)) at (walking-home (at-loop .loop .inv) (c .if1 .taken))
 
 step-requires : tie.Need-step-requires Inv-loop μ-loop
 step-requires c κs = search (walking-low, walking-movable)
@@ -28,7 +31,9 @@ loop-again : tie.Need-loop-again Inv-loop μ-loop
 loop-again c = search walking-next
 
 returns-2 : tie.Need-returns-2 Inv-loop μ-loop
-returns-2 c = rw (toZ-ofZ (c .before .before .fits .x)) at (walking-over (c .before .loop .inv) (omega (arith, c .loop-test .left)))
+returns-2 c =
+    let start : tie.Start Inv-loop μ-loop = search in
+    rw (toZ-ofZ (start .fits .x)) at (walking-over (c .before .loop .inv) (omega (arith, c .loop-test .left)))
 
 pub walk-spec : {M : Type 1} → statement M
 walk-spec =

@@ -33,7 +33,9 @@ loop-again : tie.Need-loop-again Inv-loop μ-loop
 loop-again c = search (tablesOf, removed-next, needs)
 
 returns : tie.Need-returns Inv-loop μ-loop
-returns c = let a = c .before .before .before .args in
+returns c =
+    let start : tie.Start Inv-loop μ-loop = search in
+    let a = start .args in
     let e : c .before .loop .k ≡ a .n - 2 = omega (arith, c .loop-test .left, c .before .loop .inv .0) in
     subst (λ (m : ℕ). RemovedPacked (a .n) (a .triangles .now) (tablesOf (a .scratch .now)) (tablesOf (c .before .loop .scratch)) m) e (c .before .loop .inv .2)
 

@@ -20,7 +20,9 @@ loop-again : tie.Need-loop-again Inv-loop μ-loop
 loop-again c = search (tablesOf, walks-next, needs)
 
 returns : tie.Need-returns Inv-loop μ-loop
-returns c = let a = c .before .before .before .args in
+returns c =
+    let start : tie.Start Inv-loop μ-loop = search in
+    let a = start .args in
     let e : c .before .loop .t ≡ 2 * a .n - 4 = omega (arith, c .loop-test .left, c .before .loop .inv .1) in
     subst (λ (m : ℕ). TrianglesPacked (a .n) (a .triangles .now) (tablesOf (a .scratch .now)) (tablesOf (c .before .loop .scratch)) m) e (c .before .loop .inv .3)
 

@@ -7,11 +7,15 @@ use Rattle.repair_words.proofs.set_rim.Tie as tie
 
 returns : tie.Need-returns
 unfolding withRim
-returns c = c .before .set-head .ensures ∙ rw (
-  c .before .before .before .before .before .set-count .ensures,
-  c .before .before .before .before .before .before .origin .ensures .0,
-  c .before .before .origin2 .ensures .0,
-) refl
+returns c =
+    let after-origin : tie.After-origin = search in
+    let after-set-count : tie.After-set-count = search in
+    let after-origin2 : tie.After-origin2 = search in
+    c .before .set-head .ensures ∙ rw (
+      after-set-count .set-count .ensures,
+      after-origin .origin .ensures .0,
+      after-origin2 .origin2 .ensures .0,
+    ) refl
 
 pub set-rim-spec : {M : Type 1} → statement M
 set-rim-spec =
