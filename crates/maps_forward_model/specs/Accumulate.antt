@@ -26,8 +26,8 @@ use Rattle.theory_inverse.specs.Drawings.{Drawing}
 use Rattle.scratch_tables.specs.Tables.{Tables}
 use Rattle.labels_tables.specs.LabelledTables.{Stored, oppositeIn}
 use Rattle.maps_forward_model.specs.Removals.{Later, Removal, Removals, fan-below, step-new, step-after}
-use Rattle.maps_forward_model.specs.Model.{accumulate, accumulateAll, length-downs}
-use Rattle.maps_forward_model.specs.RemovalStep.{Room, leave-0, leave-0v, leave-off, leave-v, leave-new, leave-room}
+use Rattle.maps_forward_model.specs.Model.{accumulate, accumulateAll, length-accumulateAll}
+use Rattle.maps_forward_model.specs.RemovalStep.{Room, accumulate-0, accumulate-0v, accumulate-off, accumulate-v, accumulate-new, accumulate-room}
 
 -- the two darts that a step takes away were there
 step-pair : {T : ℕ} {o f : ℕ → ℕ} {e e′ : ℕ} {gs C C′ : List ℕ} → Step T o f e e′ gs C C′ → (e ∈ C) × (e′ ∈ C)
@@ -57,7 +57,7 @@ module _ {n : ℕ} (ts ls : List ℕ) (sph : Sphere n (length ts / 3) (org ts) (
   state k = accumulateAll ts t ws k bs
 
   long-state : (k : ℕ) → length (state k) ≡ 3 * n
-  long-state k = length-downs ts t ws k bs ∙ long
+  long-state k = length-accumulateAll ts t ws k bs ∙ long
 
   -- one more step
   state-next : (k i : ℕ) → t .mark (2 * k + 1) ≡ i → state (suc k) ≡ accumulate ts t ws i (state k)
@@ -86,9 +86,9 @@ module _ {n : ℕ} (ts ls : List ℕ) (sph : Sphere n (length ts / 3) (org ts) (
       away (org ts y) (removedVertices T (org ts) (opp ts) tr) i (λ k. g (List·Memᴰ·tail k)) z0 z1
       (turn .starts y (step-new s (Memᴰ·map (edge T (org ts) (opp ts)) m)))
       (edge-org sph x (fan-below f m) ∙ q) in (
-        ih .0 ∙ ap (λ (l : List ℤ). coordinate l 0 i) nx ∙ leave-0 ts ls sph size R t words ws turn (st .1) (st .2) (state k) (long-state k) i
+        ih .0 ∙ ap (λ (l : List ℤ). coordinate l 0 i) nx ∙ accumulate-0 ts ls sph size R t words ws turn (st .1) (st .2) (state k) (long-state k) i
             (λ q. g (List·Memᴰ·head q)),
-        ih .1 ∙ ap (λ (l : List ℤ). coordinate l 1 i) nx ∙ leave-off ts ls sph size R t words ws turn (st .1) (st .2) (state k) (long-state k) i off,
+        ih .1 ∙ ap (λ (l : List ℤ). coordinate l 1 i) nx ∙ accumulate-off ts ls sph size R t words ws turn (st .1) (st .2) (state k) (long-state k) i off,
       )
 
   -- ---- the sums of a drawing
@@ -111,9 +111,9 @@ module _ {n : ℕ} (ts ls : List ℕ) (sph : Sphere n (length ts / 3) (org ts) (
           | inl new ↦
               let g = Memᴰ·of-map (edge T (org ts) (opp ts)) gs new in
               subst (Holds T (org ts) (opp ts) F (accumulate ts t ws (org ts e) xs)) (g .2)
-              (leave-new ts ls sph size R t words ws turn hd ct xs lg D (at e (pair .0)) (at e′ (pair .1)) (g .0) (g .1))
+              (accumulate-new ts ls sph size R t words ws turn hd ct xs lg D (at e (pair .0)) (at e′ (pair .1)) (g .0) (g .1))
           | inr old ↦
-              leave-off ts ls sph size R t words ws turn hd ct xs lg (org ts x)
+              accumulate-off ts ls sph size R t words ws turn hd ct xs lg (org ts x)
               (λ g l q. old .1 (edge T (org ts) (opp ts) g) (Memᴰ·map (edge T (org ts) (opp ts)) l) (edge-org sph g (fan-below (turn .fan) l) ∙ q))
               ∙ at x (old .0)
         ])
@@ -121,28 +121,28 @@ module _ {n : ℕ} (ts ls : List ℕ) (sph : Sphere n (length ts / 3) (org ts) (
     module _ (small : (e e′ : ℕ) (gs C C′ L : List ℕ) → Removal T (org ts) (opp ts) (label ls) v e e′ gs C C′ L → (natAbs (F e) ≤ 2 * limit)
         × (natAbs (F e′) ≤ 2 * limit))
         (weights : (x : ℕ) → natAbs (weight ws x) ≤ limit) where
-      falls : {C : List ℕ} (tr : Trace T (org ts) (opp ts) C) (k : ℕ) → Stored n T (org ts) (opp ts) t k tr →
+      accumulates : {C : List ℕ} (tr : Trace T (org ts) (opp ts) C) (k : ℕ) → Stored n T (org ts) (opp ts) t k tr →
           Removals T (org ts) (opp ts) (label ls) v tr →
           Every (Holds T (org ts) (opp ts) F (state k)) C → Settled T (org ts) (opp ts) F (state (n - 2)) tr × Rooms k tr
-      falls done k st tu held = (subst (λ (j : ℕ). coordinate (state j) 1 (org ts 2) ≡ F 2) st (held .0), tt)
-      falls (step {C} {C′} e e′ gs h o f s tr) k st tu held =
+      accumulates done k st tu held = (subst (λ (j : ℕ). coordinate (state j) 1 (org ts 2) ≡ F 2) st (held .0), tt)
+      accumulates (step {C} {C′} e e′ gs h o f s tr) k st tu held =
           let turn = tu .0 in
           let nx = state-next k (org ts e) (st .0) in
           let pair = step-pair s in
           let at : (x : ℕ) → x ∈ C → Holds T (org ts) (opp ts) F (state k) x = λ x m. every-in (Holds T (org ts) (opp ts) F (state k)) held m in
           let held′ = held-next turn (st .1) (st .2) (state k) (long-state k) held in
-          let rest = falls tr (suc k) (st .3) (tu .1) (rw nx held′) in
+          let rest = accumulates tr (suc k) (st .3) (tu .1) (rw nx held′) in
           let stay = persists tr (suc k) (st .3) (tu .1) (org ts e) (turn .gone) (turn .not0) (turn .not1) in
           let b = small e e′ gs C C′ (removedVertices T (org ts) (opp ts) tr) turn in (
             (
               stay .1 ∙ ap (λ (l : List ℤ). coordinate l 1 (org ts e)) nx
-                  ∙ leave-v ts ls sph size R t words ws turn (st .1) (st .2) (state k) (long-state k) ∙ at e (pair .0),
+                  ∙ accumulate-v ts ls sph size R t words ws turn (st .1) (st .2) (state k) (long-state k) ∙ at e (pair .0),
               stay .0 ∙ ap (λ (l : List ℤ). coordinate l 0 (org ts e)) nx
-                  ∙ leave-0v ts ls sph size R t words ws turn (st .1) (st .2) (state k) (long-state k) ∙ at e′ (pair .1),
+                  ∙ accumulate-0v ts ls sph size R t words ws turn (st .1) (st .2) (state k) (long-state k) ∙ at e′ (pair .1),
               rest .0,
             ),
             (
-              rw (st .0) (leave-room ts ls sph size R t words ws turn (st .1) (st .2) (state k) (long-state k) D (at e (pair .0)) (at e′ (pair .1)) (b .0)
+              rw (st .0) (accumulate-room ts ls sph size R t words ws turn (st .1) (st .2) (state k) (long-state k) D (at e (pair .0)) (at e′ (pair .1)) (b .0)
                   (b .1) weights),
               rest .1,
             ),
@@ -160,7 +160,7 @@ module _ {n : ℕ} (ts ls : List ℕ) (sph : Sphere n (length ts / 3) (org ts) (
             )
 
         pub settled : Settled T (org ts) (opp ts) F (state (n - 2)) (R .trace)
-        settled = falls (R .trace) 0 st tu start .0
+        settled = accumulates (R .trace) 0 st tu start .0
 
         rooms-at : {C : List ℕ} (tr : Trace T (org ts) (opp ts) C) (j : ℕ) → Stored n T (org ts) (opp ts) t j tr → Rooms j tr → (k : ℕ) →
             j ≤ k → k < n - 2 →
@@ -173,4 +173,4 @@ module _ {n : ℕ} (ts ls : List ℕ) (sph : Sphere n (length ts / 3) (org ts) (
             ]
 
         pub rooms : (k : ℕ) → k < n - 2 → Room ts t ws (t .mark (2 * k + 1)) (state k)
-        rooms k h = rooms-at (R .trace) 0 st (falls (R .trace) 0 st tu start .1) k (omega arith) h
+        rooms k h = rooms-at (R .trace) 0 st (accumulates (R .trace) 0 st tu start .1) k (omega arith) h

@@ -126,24 +126,24 @@ add-where bs i c′ i′ j h = go (eqb j i) refl
 
 -- ---- a fan laid down
 
-pub length-lay : (ts : List ℕ) (ws : List ℤ) (g : ℕ) (bs : List ℤ) → length (storeWeight ts ws g bs) ≡ length bs
+pub length-storeWeight : (ts : List ℕ) (ws : List ℤ) (g : ℕ) (bs : List ℤ) → length (storeWeight ts ws g bs) ≡ length bs
 unfolding storeWeight
-length-lay ts ws g bs = length-set bs (wordIndex 1 (org ts (prev g))) (weight ws (tri g))
+length-storeWeight ts ws g bs = length-set bs (wordIndex 1 (org ts (prev g))) (weight ws (tri g))
 
 module _ (ts : List ℕ) (ws : List ℤ) where
   unfoldable pub stores : List ℕ → List ℤ → List ℤ
   stores [] bs = bs
   stores (g ∷ gs) bs = stores gs (storeWeight ts ws g bs)
 
-  lay-at : (x : ℕ) (bs : List ℤ) → wordIndex 1 (org ts (prev x)) < length bs → coordinate (storeWeight ts ws x bs) 1 (org ts (prev x))
+  storeWeight-at : (x : ℕ) (bs : List ℤ) → wordIndex 1 (org ts (prev x)) < length bs → coordinate (storeWeight ts ws x bs) 1 (org ts (prev x))
       ≡ weight ws (tri x)
   unfolding storeWeight
-  lay-at x bs h = set-at bs (weight ws (tri x)) 1 (org ts (prev x)) h
+  storeWeight-at x bs h = set-at bs (weight ws (tri x)) 1 (org ts (prev x)) h
 
   pub length-stores : (gs : List ℕ) (bs : List ℤ) → length (stores gs bs) ≡ length bs
   unfolding stores
   length-stores [] bs = refl
-  length-stores (g ∷ gs) bs = length-stores gs (storeWeight ts ws g bs) ∙ length-lay ts ws g bs
+  length-stores (g ∷ gs) bs = length-stores gs (storeWeight ts ws g bs) ∙ length-storeWeight ts ws g bs
 
   -- words that it does not come to
   pub stores-0 : (gs : List ℕ) (bs : List ℤ) (i : ℕ) → coordinate (stores gs bs) 0 i ≡ coordinate bs 0 i
@@ -171,8 +171,8 @@ module _ (ts : List ℕ) (ws : List ℤ) where
         | inl e ↦
             rw e
             (stores-off gs (storeWeight ts ws x bs) (org ts (prev x)) (λ y k q. δ .0 y k (sym q))
-            ∙ lay-at x bs (h x (List·Memᴰ·head refl)))
-        | inr k ↦ stores-at gs (storeWeight ts ws x bs) (δ .1) (λ y l. rw (length-lay ts ws x bs) (h y (List·Memᴰ·tail l))) g k
+            ∙ storeWeight-at x bs (h x (List·Memᴰ·head refl)))
+        | inr k ↦ stores-at gs (storeWeight ts ws x bs) (δ .1) (λ y l. rw (length-storeWeight ts ws x bs) (h y (List·Memᴰ·tail l))) g k
       ]
 
 -- ---- lengths stay
@@ -182,67 +182,67 @@ module _ (ts : List ℕ) (t : Tables) (ws : List ℤ) where
   either true k xs ys p q = p
   either false k xs ys p q = q
 
-  pub length-spread : (k stop g : ℕ) (bs : List ℤ) → length (storeFan ts t ws k stop g bs) ≡ length bs
+  pub length-storeFan : (k stop g : ℕ) (bs : List ℤ) → length (storeFan ts t ws k stop g bs) ≡ length bs
   unfolding storeFan
-  length-spread zero stop g bs = refl
-  length-spread (suc k) stop g bs =
+  length-storeFan zero stop g bs = refl
+  length-storeFan (suc k) stop g bs =
       either (eqb (prev g) stop) (length bs) (storeWeight ts ws g bs) (storeFan ts t ws k stop (oppositeIn (t .op) (prev g)) (storeWeight ts ws g bs))
-      (length-lay ts ws g bs)
-      (length-spread k stop (oppositeIn (t .op) (prev g)) (storeWeight ts ws g bs) ∙ length-lay ts ws g bs)
+      (length-storeWeight ts ws g bs)
+      (length-storeFan k stop (oppositeIn (t .op) (prev g)) (storeWeight ts ws g bs) ∙ length-storeWeight ts ws g bs)
 
-  pub length-laid : (v : ℕ) (bs : List ℤ) → length (keptAndStored ts t ws v bs) ≡ length bs
+  pub length-keptAndStored : (v : ℕ) (bs : List ℤ) → length (keptAndStored ts t ws v bs) ≡ length bs
   unfolding keptAndStored
-  length-laid v bs =
-      length-spread (length ts) (t .count v) (t .head v) (copy (wordIndex 0 v) (wordIndex 1 (org ts (t .count v))) bs)
+  length-keptAndStored v bs =
+      length-storeFan (length ts) (t .count v) (t .head v) (copy (wordIndex 0 v) (wordIndex 1 (org ts (t .count v))) bs)
       ∙ length-copy bs (wordIndex 0 v) (wordIndex 1 (org ts (t .count v)))
 
-  pub length-handed : (v : ℕ) (bs : List ℤ) → length (withLeftSum ts t ws v bs) ≡ length bs
+  pub length-withLeftSum : (v : ℕ) (bs : List ℤ) → length (withLeftSum ts t ws v bs) ≡ length bs
   unfolding withLeftSum
-  length-handed v bs = length-add (keptAndStored ts t ws v bs) (wordIndex 1 (org ts (prev (t .head v)))) (wordIndex 1 v) ∙ length-laid v bs
+  length-withLeftSum v bs = length-add (keptAndStored ts t ws v bs) (wordIndex 1 (org ts (prev (t .head v)))) (wordIndex 1 v) ∙ length-keptAndStored v bs
 
-  pub length-leave : (v : ℕ) (bs : List ℤ) → length (accumulate ts t ws v bs) ≡ length bs
+  pub length-accumulate : (v : ℕ) (bs : List ℤ) → length (accumulate ts t ws v bs) ≡ length bs
   unfolding accumulate
-  length-leave v bs = length-add (withLeftSum ts t ws v bs) (wordIndex 1 (org ts (t .count v))) (wordIndex 0 v) ∙ length-handed v bs
+  length-accumulate v bs = length-add (withLeftSum ts t ws v bs) (wordIndex 1 (org ts (t .count v))) (wordIndex 0 v) ∙ length-withLeftSum v bs
 
-  pub length-downs : (k : ℕ) (bs : List ℤ) → length (accumulateAll ts t ws k bs) ≡ length bs
+  pub length-accumulateAll : (k : ℕ) (bs : List ℤ) → length (accumulateAll ts t ws k bs) ≡ length bs
   unfolding accumulateAll
-  length-downs zero bs = refl
-  length-downs (suc k) bs = length-leave (t .mark (2 * k + 1)) (accumulateAll ts t ws k bs) ∙ length-downs k bs
+  length-accumulateAll zero bs = refl
+  length-accumulateAll (suc k) bs = length-accumulate (t .mark (2 * k + 1)) (accumulateAll ts t ws k bs) ∙ length-accumulateAll k bs
 
 module _ (ts : List ℕ) where
-  pub length-cornered : (bs : List ℤ) → length (withCorners ts bs) ≡ length bs
+  pub length-withCorners : (bs : List ℤ) → length (withCorners ts bs) ≡ length bs
   unfolding withCorners
-  length-cornered bs =
+  length-withCorners bs =
       length-copy (set (set bs (wordIndex 1 (org ts 0)) (pos 0)) (wordIndex 0 (org ts 2)) (pos 0)) (wordIndex 0 (org ts 0)) (wordIndex 1 (org ts 2))
       ∙ length-set (set bs (wordIndex 1 (org ts 0)) (pos 0)) (wordIndex 0 (org ts 2)) (pos 0) ∙ length-set bs (wordIndex 1 (org ts 0)) (pos 0)
 
 module _ (ts : List ℕ) (t : Tables) where
-  pub length-raised : (v : ℕ) (bs : List ℤ) → length (withLeftB1 ts t v bs) ≡ length bs
+  pub length-withLeftB1 : (v : ℕ) (bs : List ℤ) → length (withLeftB1 ts t v bs) ≡ length bs
   unfolding withLeftB1
-  length-raised v bs = length-add bs (wordIndex 1 v) (wordIndex 1 (tip ts (t .head v)))
+  length-withLeftB1 v bs = length-add bs (wordIndex 1 v) (wordIndex 1 (tip ts (t .head v)))
 
-  pub length-rise : (v : ℕ) (bs : List ℤ) → length (propagate ts t v bs) ≡ length bs
+  pub length-propagate : (v : ℕ) (bs : List ℤ) → length (propagate ts t v bs) ≡ length bs
   unfolding propagate
-  length-rise v bs = length-add (withLeftB1 ts t v bs) (wordIndex 0 v) (wordIndex 0 (org ts (t .count v))) ∙ length-raised v bs
+  length-propagate v bs = length-add (withLeftB1 ts t v bs) (wordIndex 0 v) (wordIndex 0 (org ts (t .count v))) ∙ length-withLeftB1 v bs
 
-  pub length-ups : (m k : ℕ) (bs : List ℤ) → length (propagateAll ts t m k bs) ≡ length bs
+  pub length-propagateAll : (m k : ℕ) (bs : List ℤ) → length (propagateAll ts t m k bs) ≡ length bs
   unfolding propagateAll
-  length-ups m zero bs = refl
-  length-ups m (suc k) bs = length-rise (t .mark (2 * (m - suc k) + 1)) (propagateAll ts t m k bs) ∙ length-ups m k bs
+  length-propagateAll m zero bs = refl
+  length-propagateAll m (suc k) bs = length-propagate (t .mark (2 * (m - suc k) + 1)) (propagateAll ts t m k bs) ∙ length-propagateAll m k bs
 
 -- the loop lays down a whole fan, if the words of the darts have their opposites
 module _ (ts : List ℕ) (t : Tables) (ws : List ℤ) {T : ℕ} {o f : ℕ → ℕ} (e′ : ℕ) (twice : (d : ℕ) → d < 3 * T →
     f (f d) ≡ d) (h′ : e′ < 3 * T)
     (words : (d : ℕ) → d < 3 * T → oppositeIn (t .op) d ≡ f d) where
-  pub spread-fan : {g : ℕ} {gs : List ℕ} (k : ℕ) (bs : List ℤ) → Fan T o f (f e′) g gs → Onward (f e′) gs → length gs ≤ k →
+  pub storeFan-stores : {g : ℕ} {gs : List ℕ} (k : ℕ) (bs : List ℤ) → Fan T o f (f e′) g gs → Onward (f e′) gs → length gs ≤ k →
       storeFan ts t ws k e′ g bs ≡ stores ts ws gs bs
   unfolding storeFan stores
-  spread-fan zero bs (end h q) a l = absurd (omega arith)
-  spread-fan zero bs (more h s) a l = absurd (omega arith)
-  spread-fan (suc k) bs (end {g} h q) a l =
+  storeFan-stores zero bs (end h q) a l = absurd (omega arith)
+  storeFan-stores zero bs (more h s) a l = absurd (omega arith)
+  storeFan-stores (suc k) bs (end {g} h q) a l =
       let e : prev g ≡ e′ = sym (twice (prev g) (prev-below T g h)) ∙ ap f q ∙ twice e′ h′ in
       rw (eq-eqb (prev g) e′ e)
-  spread-fan (suc k) bs (more {g} {gs} h s) a l =
+  storeFan-stores (suc k) bs (more {g} {gs} h s) a l =
       let b = onward-more s a in
       let e : prev g ≢ e′ = λ q. b .0 (ap f q) in
-      rw (ne-eqb (prev g) e′ e, words (prev g) (prev-below T g h)) (spread-fan k (storeWeight ts ws g bs) s (b .1) (omega arith))
+      rw (ne-eqb (prev g) e′ e, words (prev g) (prev-below T g h)) (storeFan-stores k (storeWeight ts ws g bs) s (b .1) (omega arith))

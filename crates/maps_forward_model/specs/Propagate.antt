@@ -24,7 +24,7 @@ use Rattle.scratch_tables.specs.Tables.{Tables}
 use Rattle.labels_tables.specs.LabelledTables.{Stored}
 use Rattle.maps_forward_model.specs.Removals.{Later, Removal, Removals}
 use Rattle.maps_forward_model.specs.Model.{wordIndex, add, withCorners, withLeftB1, propagate, propagateAll, set-at, set-off, add-at, add-off}
-use Rattle.maps_forward_model.specs.Model.{copy-at, copy-off, length-raised, length-ups}
+use Rattle.maps_forward_model.specs.Model.{copy-at, copy-off, length-withLeftB1, length-propagateAll}
 use Rattle.maps_forward_model.specs.Accumulate.{Settled}
 
 -- the two additions of a vertex that comes back have room
@@ -81,15 +81,15 @@ module _ {n : ℕ} (ts ls : List ℕ) (sph : Sphere n (length ts / 3) (org ts) (
     in2 = sph .vertex 2 (outer-below sph R (named ts))
 
     -- all other words are as they were
-    cornered-off : (c i : ℕ) → wordIndex c i ≢ wordIndex 0 (org ts 0) → wordIndex c i ≢ wordIndex 1 (org ts 0) →
+    withCorners-off : (c i : ℕ) → wordIndex c i ≢ wordIndex 0 (org ts 0) → wordIndex c i ≢ wordIndex 1 (org ts 0) →
         wordIndex c i ≢ wordIndex 0 (org ts 2) → coordinate (withCorners ts bs) c i ≡ coordinate bs c i
     unfolding withCorners
-    cornered-off c i p q r =
+    withCorners-off c i p q r =
         copy-off both (wordIndex 0 (org ts 0)) (wordIndex 1 (org ts 2)) c i p ∙ set-off once (pos 0) (wordIndex 0 (org ts 2)) c i r
         ∙ set-off bs (pos 0) (wordIndex 1 (org ts 0)) c i q
 
-    cornered-v1 : coordinate (withCorners ts bs) 1 (org ts 2) ≡ coordinate bs 1 (org ts 2)
-    cornered-v1 = cornered-off 1 (org ts 2) (omega arith) (omega (arith, apart02)) (omega arith)
+    withCorners-v1 : coordinate (withCorners ts bs) 1 (org ts 2) ≡ coordinate bs 1 (org ts 2)
+    withCorners-v1 = withCorners-off 1 (org ts 2) (omega arith) (omega (arith, apart02)) (omega arith)
 
     pub corners-stand : coordinate bs 1 (org ts 2) ≡ F 2 → Stands (withCorners ts bs) (org ts 0) × Stands (withCorners ts bs) (org ts 2)
     unfolding withCorners
@@ -107,79 +107,79 @@ module _ {n : ℕ} (ts ls : List ℕ) (sph : Sphere n (length ts / 3) (org ts) (
           (
             copy-off both (wordIndex 0 (org ts 0)) (wordIndex 1 (org ts 2)) 0 (org ts 2) (omega (arith, apart02))
                 ∙ set-at once (pos 0) 0 (org ts 2) (omega (arith, length-set bs (wordIndex 1 (org ts 0)) (pos 0), long, in2)) ∙ sym (k .3),
-            cornered-v1 ∙ e ∙ sym (k .0),
+            withCorners-v1 ∙ e ∙ sym (k .0),
           ),
         )
 
     -- the others hold what they held
-    pub settled-cornered : {C : List ℕ} (tr : Trace T (org ts) (opp ts) C) → Removals T (org ts) (opp ts) (label ls) v tr →
+    pub settled-withCorners : {C : List ℕ} (tr : Trace T (org ts) (opp ts) C) → Removals T (org ts) (opp ts) (label ls) v tr →
         Settled T (org ts) (opp ts) F bs tr →
         Settled T (org ts) (opp ts) F (withCorners ts bs) tr
-    settled-cornered done tu k = cornered-v1 ∙ k
-    settled-cornered (step e e′ gs h o f s tr) tu k =
+    settled-withCorners done tu k = withCorners-v1 ∙ k
+    settled-withCorners (step e e′ gs h o f s tr) tu k =
         let a = tu .0 .not0 in
         let b = tu .0 .not1 in (
-          cornered-off 1 (org ts e) (omega arith) (omega (arith, a)) (omega arith) ∙ k .0,
-          cornered-off 0 (org ts e) (omega (arith, a)) (omega arith) (omega (arith, b)) ∙ k .1,
-          settled-cornered tr (tu .1) (k .2),
+          withCorners-off 1 (org ts e) (omega arith) (omega (arith, a)) (omega arith) ∙ k .0,
+          withCorners-off 0 (org ts e) (omega (arith, a)) (omega arith) (omega (arith, b)) ∙ k .1,
+          settled-withCorners tr (tu .1) (k .2),
         )
 
   -- ---- one vertex comes back
 
   module _ {e e′ : ℕ} {gs C C′ L : List ℕ} (turn : Removal T (org ts) (opp ts) (label ls) v e e′ gs C C′ L)
       (head : t .head (org ts e) ≡ e) (count : t .count (org ts e) ≡ e′) (xs : List ℤ) (long : length xs ≡ 3 * n) where
-    raised-is : withLeftB1 ts t (org ts e) xs ≡ add (wordIndex 1 (org ts e)) (wordIndex 1 (org ts (next e))) xs
+    withLeftB1-is : withLeftB1 ts t (org ts e) xs ≡ add (wordIndex 1 (org ts e)) (wordIndex 1 (org ts (next e))) xs
     unfolding withLeftB1 tip
-    raised-is = rw head
+    withLeftB1-is = rw head
 
-    rise-is : propagate ts t (org ts e) xs ≡ add (wordIndex 0 (org ts e)) (wordIndex 0 (org ts e′)) (withLeftB1 ts t (org ts e) xs)
+    propagate-is : propagate ts t (org ts e) xs ≡ add (wordIndex 0 (org ts e)) (wordIndex 0 (org ts e′)) (withLeftB1 ts t (org ts e) xs)
     unfolding propagate
-    rise-is = rw count
+    propagate-is = rw count
 
     v-in : org ts e < n
     v-in = sph .vertex e (turn .below)
 
-    raised-0 : (i : ℕ) → coordinate (withLeftB1 ts t (org ts e) xs) 0 i ≡ coordinate xs 0 i
-    raised-0 i = ap (λ (l : List ℤ). coordinate l 0 i) raised-is ∙ add-off xs (wordIndex 1 (org ts e)) (wordIndex 1 (org ts (next e))) 0 i (omega arith)
+    withLeftB1-0 : (i : ℕ) → coordinate (withLeftB1 ts t (org ts e) xs) 0 i ≡ coordinate xs 0 i
+    withLeftB1-0 i = ap (λ (l : List ℤ). coordinate l 0 i) withLeftB1-is ∙ add-off xs (wordIndex 1 (org ts e)) (wordIndex 1 (org ts (next e))) 0 i (omega arith)
 
     -- the other vertices keep theirs
-    rise-off : (i : ℕ) → i ≢ org ts e → (coordinate (propagate ts t (org ts e) xs) 0 i ≡ coordinate xs 0 i)
+    propagate-off : (i : ℕ) → i ≢ org ts e → (coordinate (propagate ts t (org ts e) xs) 0 i ≡ coordinate xs 0 i)
         × (coordinate (propagate ts t (org ts e) xs) 1 i ≡ coordinate xs 1 i)
-    rise-off i h =
+    propagate-off i h =
         let y = withLeftB1 ts t (org ts e) xs in (
-          ap (λ (l : List ℤ). coordinate l 0 i) rise-is ∙ add-off y (wordIndex 0 (org ts e)) (wordIndex 0 (org ts e′)) 0 i (omega (arith, h))
-              ∙ raised-0 i,
-          ap (λ (l : List ℤ). coordinate l 1 i) rise-is ∙ add-off y (wordIndex 0 (org ts e)) (wordIndex 0 (org ts e′)) 1 i (omega arith)
-              ∙ ap (λ (l : List ℤ). coordinate l 1 i) raised-is
+          ap (λ (l : List ℤ). coordinate l 0 i) propagate-is ∙ add-off y (wordIndex 0 (org ts e)) (wordIndex 0 (org ts e′)) 0 i (omega (arith, h))
+              ∙ withLeftB1-0 i,
+          ap (λ (l : List ℤ). coordinate l 1 i) propagate-is ∙ add-off y (wordIndex 0 (org ts e)) (wordIndex 0 (org ts e′)) 1 i (omega arith)
+              ∙ ap (λ (l : List ℤ). coordinate l 1 i) withLeftB1-is
               ∙ add-off xs (wordIndex 1 (org ts e)) (wordIndex 1 (org ts (next e))) 1 i (omega (arith, h)),
         )
 
     module _ (left : coordinate xs 1 (org ts e) ≡ F e) (right : coordinate xs 0 (org ts e) ≡ F e′) (l : Stands xs (org ts (next e)))
         (r : Stands xs (org ts e′)) where
-      rise-stands : Stands (propagate ts t (org ts e) xs) (org ts e)
-      rise-stands =
+      propagate-stands : Stands (propagate ts t (org ts e) xs) (org ts e)
+      propagate-stands =
           let y = withLeftB1 ts t (org ts e) xs in
           let h = turn .below′ in (
-            ap (λ (l : List ℤ). coordinate l 0 (org ts e)) rise-is
-                ∙ add-at y 0 (org ts e) 0 (org ts e′) (omega (arith, length-raised ts t (org ts e) xs, long, v-in))
-                ∙ ap₂ _+ℤ_ (raised-0 (org ts e) ∙ right) (raised-0 (org ts e′) ∙ r .0)
+            ap (λ (l : List ℤ). coordinate l 0 (org ts e)) propagate-is
+                ∙ add-at y 0 (org ts e) 0 (org ts e′) (omega (arith, length-withLeftB1 ts t (org ts e) xs, long, v-in))
+                ∙ ap₂ _+ℤ_ (withLeftB1-0 (org ts e) ∙ right) (withLeftB1-0 (org ts e′) ∙ r .0)
                 ∙ sym (ap B0 (turn .meet ∙ sym (sph .reverses e′ h)) ∙ D .down1 (opp ts e′) (turn .right)
                 ∙ ap₂ _+ℤ_ (D .side e′ h) (ap B0 (tip-opp sph e′ h))),
-            ap (λ (l : List ℤ). coordinate l 1 (org ts e)) rise-is
+            ap (λ (l : List ℤ). coordinate l 1 (org ts e)) propagate-is
                 ∙ add-off y (wordIndex 0 (org ts e)) (wordIndex 0 (org ts e′)) 1 (org ts e) (omega arith)
-                ∙ ap (λ (l : List ℤ). coordinate l 1 (org ts e)) raised-is
+                ∙ ap (λ (l : List ℤ). coordinate l 1 (org ts e)) withLeftB1-is
                 ∙ add-at xs 1 (org ts e) 1 (org ts (next e)) (omega (arith, long, v-in))
                 ∙ ap₂ _+ℤ_ left (l .1) ∙ sym (D .down0 e (turn .left)),
           )
 
-      rise-room : natAbs (F e) ≤ 2 * limit → natAbs (F e′) ≤ 2 * limit → natAbs (B1 (org ts (next e))) ≤ limit →
+      propagate-room : natAbs (F e) ≤ 2 * limit → natAbs (F e′) ≤ 2 * limit → natAbs (B1 (org ts (next e))) ≤ limit →
           natAbs (B0 (org ts e′)) ≤ limit →
           Ceiling ts t (org ts e) xs
       unfolding tip
-      rise-room a b c d =
+      propagate-room a b c d =
           record {
             left = rw (head, left, l .1) (omega (arith, a, c));
-            right = rw (count, raised-0 (org ts e) ∙ right, raised-0 (org ts e′) ∙ r .0) (omega (arith, b, d));
+            right = rw (count, withLeftB1-0 (org ts e) ∙ right, withLeftB1-0 (org ts e′) ∙ r .0) (omega (arith, b, d));
           }
 
   -- ---- all of them, from the last that left back to the first
@@ -192,7 +192,7 @@ module _ {n : ℕ} (ts ls : List ℕ) (sph : Sphere n (length ts / 3) (org ts) (
     after k = propagateAll ts t (n - 2) k bs
 
     long-after : (k : ℕ) → length (after k) ≡ 3 * n
-    long-after k = length-ups ts t (n - 2) k bs ∙ long
+    long-after k = length-propagateAll ts t (n - 2) k bs ∙ long
 
     after-next : (j i : ℕ) → j < n - 2 → t .mark (2 * j + 1) ≡ i → after (n - 2 - j) ≡ propagate ts t i (after (n - 2 - suc j))
     unfolding propagateAll
@@ -224,11 +224,11 @@ module _ {n : ℕ} (ts ls : List ℕ) (sph : Sphere n (length ts / 3) (org ts) (
     later-tail a L i h (inl m) = elim (List·Memᴰ·cases-cons m) [ inl p ↦ absurd (h p) | inr k ↦ inl k ]
     later-tail a L i h (inr k) = inr k
 
-    backs : {C : List ℕ} (tr : Trace T (org ts) (opp ts) C) (j : ℕ) → Stored n T (org ts) (opp ts) t j tr →
+    propagates : {C : List ℕ} (tr : Trace T (org ts) (opp ts) C) (j : ℕ) → Stored n T (org ts) (opp ts) t j tr →
         Removals T (org ts) (opp ts) (label ls) v tr →
         Settled T (org ts) (opp ts) F bs tr → Back j tr
     unfolding removedVertices
-    backs done j st tu se =
+    propagates done j st tu se =
         let z = after-none (n - 2 - j) (omega (arith, st)) in
         record {
           stands = λ i k. rw z (elim k [
@@ -239,10 +239,10 @@ module _ {n : ℕ} (ts ls : List ℕ) (sph : Sphere n (length ts / 3) (org ts) (
           others = λ i g. rw z (refl, refl);
           ceilings = tt;
         }
-    backs (step {C} {C′} e e′ gs h o f s tr) j st tu se =
+    propagates (step {C} {C′} e e′ gs h o f s tr) j st tu se =
         let L = removedVertices T (org ts) (opp ts) tr in
         let turn = tu .0 in
-        let ih = backs tr (suc j) (st .3) (tu .1) (se .2) in
+        let ih = propagates tr (suc j) (st .3) (tu .1) (se .2) in
         let nx = after-next j (org ts e) (omega (arith, stored-below tr (suc j) (st .3))) (st .0) in
         let xs = after (n - 2 - suc j) in
         let lg = long-after (n - 2 - suc j) in
@@ -251,7 +251,7 @@ module _ {n : ℕ} (ts ls : List ℕ) (sph : Sphere n (length ts / 3) (org ts) (
         let b = own .0 ∙ se .1 in
         let l = ih .stands (org ts (next e)) (turn .later-left) in
         let r = ih .stands (org ts e′) (turn .later-right) in
-        let me = rise-stands turn (st .1) (st .2) xs lg a b l r in
+        let me = propagate-stands turn (st .1) (st .2) xs lg a b l r in
         let sm = small e e′ gs C C′ L turn in
         let nl = near (org ts (next e)) (sph .vertex (next e) (next-below T e (turn .below))) in
         let nr = near (org ts e′) (sph .vertex e′ (turn .below′)) in
@@ -259,15 +259,15 @@ module _ {n : ℕ} (ts ls : List ℕ) (sph : Sphere n (length ts / 3) (org ts) (
           stands = λ i k. rw nx (elim (ℕ-discrete i (org ts e)) [
             | yes p ↦ subst (Stands (propagate ts t (org ts e) xs)) (sym p) me
             | no p ↦
-                let q = rise-off turn (st .1) (st .2) xs lg i p in
+                let q = propagate-off turn (st .1) (st .2) xs lg i p in
                 let d = ih .stands i (later-tail (org ts e) L i p k) in
                 (q .0 ∙ d .0, q .1 ∙ d .1)
           ]);
           others = λ i g.
-              let q = rise-off turn (st .1) (st .2) xs lg i (λ p. g (List·Memᴰ·head p)) in
+              let q = propagate-off turn (st .1) (st .2) xs lg i (λ p. g (List·Memᴰ·head p)) in
               let d = ih .others i (λ m. g (List·Memᴰ·tail m)) in
               rw nx (q .0 ∙ d .0, q .1 ∙ d .1);
-          ceilings = (rw (st .0) (rise-room turn (st .1) (st .2) xs lg a b l r (sm .0) (sm .1) (nl .1) (nr .0)), ih .ceilings);
+          ceilings = (rw (st .0) (propagate-room turn (st .1) (st .2) xs lg a b l r (sm .0) (sm .1) (nl .1) (nr .0)), ih .ceilings);
         }
 
     ceilings-at : {C : List ℕ} (tr : Trace T (org ts) (opp ts) C) (j : ℕ) → Stored n T (org ts) (opp ts) t j tr → Ceilings j tr → (k : ℕ) →
@@ -285,7 +285,7 @@ module _ {n : ℕ} (ts ls : List ℕ) (sph : Sphere n (length ts / 3) (org ts) (
       -- in the end every vertex stands where the drawing has it
       pub all-stand : (i : ℕ) → i < n → Stands (after (n - 2)) i
       all-stand i h =
-          let b = backs (R .trace) 0 st tu se in
+          let b = propagates (R .trace) 0 st tu se in
           let z : n - 2 - 0 ≡ n - 2 = omega arith in
           rw z at (b .stands i (elim (ℕ-discrete i (v 0)) [
             | yes p ↦ inr (inl (p ∙ named ts .v0))
@@ -295,4 +295,4 @@ module _ {n : ℕ} (ts ls : List ℕ) (sph : Sphere n (length ts / 3) (org ts) (
       pub ceilings : (k : ℕ) → k < n - 2 → Ceiling ts t (t .mark (2 * (n - 2 - suc k) + 1)) (after k)
       ceilings k h =
           let z : n - 2 - suc (n - 2 - suc k) ≡ k = omega arith in
-          rw z at (ceilings-at (R .trace) 0 st (backs (R .trace) 0 st tu se .ceilings) (n - 2 - suc k) (omega arith) (omega arith))
+          rw z at (ceilings-at (R .trace) 0 st (propagates (R .trace) 0 st tu se .ceilings) (n - 2 - suc k) (omega arith) (omega arith))

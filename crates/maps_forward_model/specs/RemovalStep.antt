@@ -32,7 +32,7 @@ use Rattle.scratch_tables.specs.Tables.{Tables}
 use Rattle.labels_tables.specs.LabelledTables.{oppositeIn}
 use Rattle.maps_forward_model.specs.Removals.{Removal, fan-first, fan-below, fan-short, fan-last, step-new}
 use Rattle.maps_forward_model.specs.Model.{wordIndex, copy, add, stores, keptAndStored, withLeftSum, accumulate, add-off, copy-off, length-copy}
-use Rattle.maps_forward_model.specs.Model.{copy-at, add-where, length-laid, length-handed, stores-0, stores-off, stores-at, spread-fan}
+use Rattle.maps_forward_model.specs.Model.{copy-at, add-where, length-keptAndStored, length-withLeftSum, stores-0, stores-off, stores-at, storeFan-stores}
 
 -- ---- members told apart by their images
 
@@ -72,8 +72,8 @@ module _ {n : ℕ} (ts ls : List ℕ) (sph : Sphere n (length ts / 3) (org ts) (
   origin : (g : ℕ) → g ∈ gs → org ts (edge T (org ts) (opp ts) g) ≡ org ts (prev g)
   origin g m = edge-org sph g (fan-below (turn .fan) m)
 
-  told : Dist (λ g. org ts (prev g)) gs
-  told = dist-of-map (org ts) (edge T (org ts) (opp ts)) (λ g. org ts (prev g)) gs origin (step-dist (turn .steps) (turn .apart))
+  starts-distinct : Dist (λ g. org ts (prev g)) gs
+  starts-distinct = dist-of-map (org ts) (edge T (org ts) (opp ts)) (λ g. org ts (prev g)) gs origin (step-dist (turn .steps) (turn .apart))
 
   not-v : (g : ℕ) → g ∈ gs → org ts (prev g) ≢ v
   not-v g m q = turn .fresh (edge T (org ts) (opp ts) g) (step-new (turn .steps) (Memᴰ·map (edge T (org ts) (opp ts)) m)) (origin g m ∙ q)
@@ -101,87 +101,87 @@ module _ {n : ℕ} (ts ls : List ℕ) (sph : Sphere n (length ts / 3) (org ts) (
   abbrev kept : List ℤ
   kept = copy (wordIndex 0 v) (wordIndex 1 (org ts e′)) bs
 
-  laid-is : keptAndStored ts t ws v bs ≡ stores ts ws gs kept
+  keptAndStored-is : keptAndStored ts t ws v bs ≡ stores ts ws gs kept
   unfolding keptAndStored
-  laid-is =
+  keptAndStored-is =
       rw (head, count)
-      (spread-fan ts t ws e′ (sph .twice) (turn .below′) words (length ts) kept (turn .fan) (turn .onward)
+      (storeFan-stores ts t ws e′ (sph .twice) (turn .below′) words (length ts) kept (turn .fan) (turn .onward)
       (omega (arith, fan-short (turn .fan) (turn .onward))))
 
-  handed-is : withLeftSum ts t ws v bs ≡ add (wordIndex 1 (org ts (prev e))) (wordIndex 1 v) (keptAndStored ts t ws v bs)
+  withLeftSum-is : withLeftSum ts t ws v bs ≡ add (wordIndex 1 (org ts (prev e))) (wordIndex 1 v) (keptAndStored ts t ws v bs)
   unfolding withLeftSum
-  handed-is = rw head
+  withLeftSum-is = rw head
 
-  leave-is : accumulate ts t ws v bs ≡ add (wordIndex 1 (org ts e′)) (wordIndex 0 v) (withLeftSum ts t ws v bs)
+  accumulate-is : accumulate ts t ws v bs ≡ add (wordIndex 1 (org ts e′)) (wordIndex 0 v) (withLeftSum ts t ws v bs)
   unfolding accumulate
-  leave-is = rw count
+  accumulate-is = rw count
 
   -- ---- after the fan is laid down
 
-  laid-0 : (i : ℕ) → i ≢ v → coordinate (keptAndStored ts t ws v bs) 0 i ≡ coordinate bs 0 i
-  laid-0 i h = ap (λ (l : List ℤ). coordinate l 0 i) laid-is ∙ stores-0 ts ws gs kept i
+  keptAndStored-0 : (i : ℕ) → i ≢ v → coordinate (keptAndStored ts t ws v bs) 0 i ≡ coordinate bs 0 i
+  keptAndStored-0 i h = ap (λ (l : List ℤ). coordinate l 0 i) keptAndStored-is ∙ stores-0 ts ws gs kept i
       ∙ copy-off bs (wordIndex 0 v) (wordIndex 1 (org ts e′)) 0 i (omega (arith, h))
 
-  laid-0v : coordinate (keptAndStored ts t ws v bs) 0 v ≡ coordinate bs 1 (org ts e′)
-  laid-0v = ap (λ (l : List ℤ). coordinate l 0 v) laid-is ∙ stores-0 ts ws gs kept v ∙ copy-at bs 0 v 1 (org ts e′) (room 0 v (omega arith) v-in)
+  keptAndStored-0v : coordinate (keptAndStored ts t ws v bs) 0 v ≡ coordinate bs 1 (org ts e′)
+  keptAndStored-0v = ap (λ (l : List ℤ). coordinate l 0 v) keptAndStored-is ∙ stores-0 ts ws gs kept v ∙ copy-at bs 0 v 1 (org ts e′) (room 0 v (omega arith) v-in)
 
-  laid-off : (i : ℕ) → ((g : ℕ) → g ∈ gs → org ts (prev g) ≢ i) → coordinate (keptAndStored ts t ws v bs) 1 i ≡ coordinate bs 1 i
-  laid-off i h = ap (λ (l : List ℤ). coordinate l 1 i) laid-is ∙ stores-off ts ws gs kept i h
+  keptAndStored-off : (i : ℕ) → ((g : ℕ) → g ∈ gs → org ts (prev g) ≢ i) → coordinate (keptAndStored ts t ws v bs) 1 i ≡ coordinate bs 1 i
+  keptAndStored-off i h = ap (λ (l : List ℤ). coordinate l 1 i) keptAndStored-is ∙ stores-off ts ws gs kept i h
       ∙ copy-off bs (wordIndex 0 v) (wordIndex 1 (org ts e′)) 1 i (omega arith)
 
-  laid-at : (g : ℕ) → g ∈ gs → coordinate (keptAndStored ts t ws v bs) 1 (org ts (prev g)) ≡ weight ws (tri g)
-  laid-at g m =
-      ap (λ (l : List ℤ). coordinate l 1 (org ts (prev g))) laid-is
-      ∙ stores-at ts ws gs kept told (λ x k. rw (length-copy bs (wordIndex 0 v) (wordIndex 1 (org ts e′)))
+  keptAndStored-at : (g : ℕ) → g ∈ gs → coordinate (keptAndStored ts t ws v bs) 1 (org ts (prev g)) ≡ weight ws (tri g)
+  keptAndStored-at g m =
+      ap (λ (l : List ℤ). coordinate l 1 (org ts (prev g))) keptAndStored-is
+      ∙ stores-at ts ws gs kept starts-distinct (λ x k. rw (length-copy bs (wordIndex 0 v) (wordIndex 1 (org ts e′)))
       (room 1 (org ts (prev x)) (omega arith) (g-in x k))) g m
 
   -- ---- after the sum on the left is handed on
 
-  handed-0 : (i : ℕ) → coordinate (withLeftSum ts t ws v bs) 0 i ≡ coordinate (keptAndStored ts t ws v bs) 0 i
-  handed-0 i = ap (λ (l : List ℤ). coordinate l 0 i) handed-is ∙ add-off (keptAndStored ts t ws v bs) (wordIndex 1 (org ts (prev e))) (wordIndex 1 v) 0 i
+  withLeftSum-0 : (i : ℕ) → coordinate (withLeftSum ts t ws v bs) 0 i ≡ coordinate (keptAndStored ts t ws v bs) 0 i
+  withLeftSum-0 i = ap (λ (l : List ℤ). coordinate l 0 i) withLeftSum-is ∙ add-off (keptAndStored ts t ws v bs) (wordIndex 1 (org ts (prev e))) (wordIndex 1 v) 0 i
       (omega arith)
 
-  handed-1 : (i : ℕ) → coordinate (withLeftSum ts t ws v bs) 1 i
+  withLeftSum-1 : (i : ℕ) → coordinate (withLeftSum ts t ws v bs) 1 i
       ≡ coordinate (keptAndStored ts t ws v bs) 1 i +ℤ cond (eqb i (org ts (prev e))) (coordinate bs 1 v) (pos 0)
-  handed-1 i =
-      ap (λ (l : List ℤ). coordinate l 1 i) handed-is
-      ∙ add-where (keptAndStored ts t ws v bs) (org ts (prev e)) 1 v i (rw (length-laid ts t ws v bs) (room 1 (org ts (prev e)) (omega arith) u-in))
-      ∙ ap (λ (z : ℤ). coordinate (keptAndStored ts t ws v bs) 1 i +ℤ cond (eqb i (org ts (prev e))) z (pos 0)) (laid-off v not-v)
+  withLeftSum-1 i =
+      ap (λ (l : List ℤ). coordinate l 1 i) withLeftSum-is
+      ∙ add-where (keptAndStored ts t ws v bs) (org ts (prev e)) 1 v i (rw (length-keptAndStored ts t ws v bs) (room 1 (org ts (prev e)) (omega arith) u-in))
+      ∙ ap (λ (z : ℤ). coordinate (keptAndStored ts t ws v bs) 1 i +ℤ cond (eqb i (org ts (prev e))) z (pos 0)) (keptAndStored-off v not-v)
 
   -- ---- and that on the right
 
-  pub leave-0 : (i : ℕ) → i ≢ v → coordinate (accumulate ts t ws v bs) 0 i ≡ coordinate bs 0 i
-  leave-0 i h =
-      ap (λ (l : List ℤ). coordinate l 0 i) leave-is
-      ∙ add-off (withLeftSum ts t ws v bs) (wordIndex 1 (org ts e′)) (wordIndex 0 v) 0 i (omega arith) ∙ handed-0 i ∙ laid-0 i h
+  pub accumulate-0 : (i : ℕ) → i ≢ v → coordinate (accumulate ts t ws v bs) 0 i ≡ coordinate bs 0 i
+  accumulate-0 i h =
+      ap (λ (l : List ℤ). coordinate l 0 i) accumulate-is
+      ∙ add-off (withLeftSum ts t ws v bs) (wordIndex 1 (org ts e′)) (wordIndex 0 v) 0 i (omega arith) ∙ withLeftSum-0 i ∙ keptAndStored-0 i h
 
-  pub leave-0v : coordinate (accumulate ts t ws v bs) 0 v ≡ coordinate bs 1 (org ts e′)
-  leave-0v =
-      ap (λ (l : List ℤ). coordinate l 0 v) leave-is
-      ∙ add-off (withLeftSum ts t ws v bs) (wordIndex 1 (org ts e′)) (wordIndex 0 v) 0 v (omega arith) ∙ handed-0 v ∙ laid-0v
+  pub accumulate-0v : coordinate (accumulate ts t ws v bs) 0 v ≡ coordinate bs 1 (org ts e′)
+  accumulate-0v =
+      ap (λ (l : List ℤ). coordinate l 0 v) accumulate-is
+      ∙ add-off (withLeftSum ts t ws v bs) (wordIndex 1 (org ts e′)) (wordIndex 0 v) 0 v (omega arith) ∙ withLeftSum-0 v ∙ keptAndStored-0v
 
-  leave-1 : (i : ℕ) → coordinate (accumulate ts t ws v bs) 1 i ≡
+  accumulate-1 : (i : ℕ) → coordinate (accumulate ts t ws v bs) 1 i ≡
       coordinate (keptAndStored ts t ws v bs) 1 i +ℤ cond (eqb i (org ts (prev e))) (coordinate bs 1 v) (pos 0) +ℤ cond (eqb i (org ts e′))
       (coordinate bs 1 (org ts e′)) (pos 0)
-  leave-1 i =
-      ap (λ (l : List ℤ). coordinate l 1 i) leave-is
-      ∙ add-where (withLeftSum ts t ws v bs) (org ts e′) 0 v i (rw (length-handed ts t ws v bs) (room 1 (org ts e′) (omega arith) r-in))
-      ∙ ap₂ (λ (y z : ℤ). y +ℤ cond (eqb i (org ts e′)) z (pos 0)) (handed-1 i) (handed-0 v ∙ laid-0v)
+  accumulate-1 i =
+      ap (λ (l : List ℤ). coordinate l 1 i) accumulate-is
+      ∙ add-where (withLeftSum ts t ws v bs) (org ts e′) 0 v i (rw (length-withLeftSum ts t ws v bs) (room 1 (org ts e′) (omega arith) r-in))
+      ∙ ap₂ (λ (y z : ℤ). y +ℤ cond (eqb i (org ts e′)) z (pos 0)) (withLeftSum-1 i) (withLeftSum-0 v ∙ keptAndStored-0v)
 
   -- a vertex where no new dart starts keeps its sum
-  pub leave-off : (i : ℕ) → ((g : ℕ) → g ∈ gs → org ts (prev g) ≢ i) → coordinate (accumulate ts t ws v bs) 1 i ≡ coordinate bs 1 i
-  leave-off i h =
+  pub accumulate-off : (i : ℕ) → ((g : ℕ) → g ∈ gs → org ts (prev g) ≢ i) → coordinate (accumulate ts t ws v bs) 1 i ≡ coordinate bs 1 i
+  accumulate-off i h =
       let u : (i ≡ org ts (prev e)) → ⊥ = λ q. h e (fan-first (turn .fan)) (sym q) in
       let r : (i ≡ org ts e′) → ⊥ = λ q. h (last .0) (last .1) (ap (org ts) (last .2) ∙ sym q) in
-      leave-1 i ∙ rw (
+      accumulate-1 i ∙ rw (
         ne-eqb i (org ts (prev e)) u,
         ne-eqb i (org ts e′) r,
         +ℤ-idr (coordinate (keptAndStored ts t ws v bs) 1 i),
         +ℤ-idr (coordinate (keptAndStored ts t ws v bs) 1 i),
-      ) (laid-off i h)
+      ) (keptAndStored-off i h)
 
-  pub leave-v : coordinate (accumulate ts t ws v bs) 1 v ≡ coordinate bs 1 v
-  leave-v = leave-off v not-v
+  pub accumulate-v : coordinate (accumulate ts t ws v bs) 1 v ≡ coordinate bs 1 v
+  accumulate-v = accumulate-off v not-v
 
   -- ---- what is carried is what the drawing has
 
@@ -197,7 +197,7 @@ module _ {n : ℕ} (ts ls : List ℕ) (sph : Sphere n (length ts / 3) (org ts) (
         elim (ℕ-discrete g e) [
           | yes p ↦ rw (p, eq-eqb (org ts (prev e)) (org ts (prev e)) refl) (sym atv)
           | no p ↦
-              let q : org ts (prev g) ≢ org ts (prev e) = λ q. p (dist-same (λ x. org ts (prev x)) gs told g e m (fan-first (turn .fan)) q) in
+              let q : org ts (prev g) ≢ org ts (prev e) = λ q. p (dist-same (λ x. org ts (prev x)) gs starts-distinct g e m (fan-first (turn .fan)) q) in
               rw (ne-eqb (org ts (prev g)) (org ts (prev e)) q)
               (elim (turn .fanning g m .left) [
                 | inl a ↦ absurd (p (R .only 0 (omega arith) g e a (turn .left) (fan-org (turn .fan) m)))
@@ -214,7 +214,7 @@ module _ {n : ℕ} (ts ls : List ℕ) (sph : Sphere n (length ts / 3) (org ts) (
           | no p ↦
               let q : org ts (prev g) ≢ org ts e′ =
               λ q.
-              let same = dist-same (λ x. org ts (prev x)) gs told g (last .0) m (last .1) (q ∙ sym (ap (org ts) (last .2))) in
+              let same = dist-same (λ x. org ts (prev x)) gs starts-distinct g (last .0) m (last .1) (q ∙ sym (ap (org ts) (last .2))) in
               p (ap prev same ∙ last .2) in
               rw (ne-eqb (org ts (prev g)) (org ts e′) q)
               (elim (turn .fanning g m .right) [
@@ -229,29 +229,29 @@ module _ {n : ℕ} (ts ls : List ℕ) (sph : Sphere n (length ts / 3) (org ts) (
         ]
 
     -- the new frontier darts carry what they should
-    pub leave-new : (g : ℕ) → g ∈ gs → coordinate (accumulate ts t ws v bs) 1 (org ts (edge T (org ts) (opp ts) g)) ≡ F (edge T (org ts) (opp ts) g)
+    pub accumulate-new : (g : ℕ) → g ∈ gs → coordinate (accumulate ts t ws v bs) 1 (org ts (edge T (org ts) (opp ts) g)) ≡ F (edge T (org ts) (opp ts) g)
     unfolding edge
-    leave-new g m =
+    accumulate-new g m =
         let b = fan-below (turn .fan) m in
         ap (coordinate (accumulate ts t ws v bs) 1) (origin g m)
-        ∙ leave-1 (org ts (prev g))
-        ∙ ap₂ _+ℤ_ (ap₂ _+ℤ_ (laid-at g m) (sym (first-carry g m))) (sym (last-carry g m))
+        ∙ accumulate-1 (org ts (prev g))
+        ∙ ap₂ _+ℤ_ (ap₂ _+ℤ_ (keptAndStored-at g m) (sym (first-carry g m))) (sym (last-carry g m))
         ∙ sym (D .flow g (fan-apex sph R (named ts) (turn .fanning g m)))
         ∙ sym (D .side (next g) (next-below T g b))
 
     -- and what is added on the way is small
-    pub leave-room : natAbs (F e) ≤ 2 * limit → natAbs (F e′) ≤ 2 * limit → ((x : ℕ) → natAbs (weight ws x) ≤ limit) → Room ts t ws v bs
-    leave-room he hr hw =
+    pub accumulate-room : natAbs (F e) ≤ 2 * limit → natAbs (F e′) ≤ 2 * limit → ((x : ℕ) → natAbs (weight ws x) ≤ limit) → Room ts t ws v bs
+    accumulate-room he hr hw =
         let le = last .1 in
-        let lu : coordinate (keptAndStored ts t ws v bs) 1 (org ts (prev e)) ≡ weight ws (tri e) = laid-at e (fan-first (turn .fan)) in
-        let lv : coordinate (keptAndStored ts t ws v bs) 1 v ≡ F e = laid-off v not-v ∙ atv in
+        let lu : coordinate (keptAndStored ts t ws v bs) 1 (org ts (prev e)) ≡ weight ws (tri e) = keptAndStored-at e (fan-first (turn .fan)) in
+        let lv : coordinate (keptAndStored ts t ws v bs) 1 v ≡ F e = keptAndStored-off v not-v ∙ atv in
         let lr : coordinate (keptAndStored ts t ws v bs) 1 (org ts e′) ≡ weight ws (tri (last .0)) =
-        sym (ap (λ (x : ℕ). coordinate (keptAndStored ts t ws v bs) 1 (org ts x)) (last .2)) ∙ laid-at (last .0) le in
-        let hv : coordinate (withLeftSum ts t ws v bs) 0 v ≡ F e′ = handed-0 v ∙ laid-0v ∙ atr in
+        sym (ap (λ (x : ℕ). coordinate (keptAndStored ts t ws v bs) 1 (org ts x)) (last .2)) ∙ keptAndStored-at (last .0) le in
+        let hv : coordinate (withLeftSum ts t ws v bs) 0 v ≡ F e′ = withLeftSum-0 v ∙ keptAndStored-0v ∙ atr in
         let c : natAbs (cond (eqb (org ts e′) (org ts (prev e))) (coordinate bs 1 v) (pos 0)) ≤ 2 * limit =
         cond-small (eqb (org ts e′) (org ts (prev e))) (coordinate bs 1 v) (2 * limit) (rw atv he) in
         let sum = abs-+ (coordinate (keptAndStored ts t ws v bs) 1 (org ts e′)) (cond (eqb (org ts e′) (org ts (prev e))) (coordinate bs 1 v) (pos 0)) in
         record {
           left = rw (head, lu, lv) (omega (arith, he, hw (tri e)));
-          right = rw (count, handed-1 (org ts e′), hv) (omega (arith, sum, c, hr, ap natAbs lr, hw (tri (last .0))));
+          right = rw (count, withLeftSum-1 (org ts e′), hv) (omega (arith, sum, c, hr, ap natAbs lr, hw (tri (last .0))));
         }

@@ -32,10 +32,10 @@ use Rattle.theory_inverse.specs.Maps.{less-plus, through, reached, forward-draw
 use Rattle.scratch_tables.specs.Tables.{Tables, tablesOf}
 use Rattle.labels_tables.specs.LabelledTables.{Peeled, Stored, oppositeIn, oppositeIn-is}
 use Rattle.maps_forward_model.specs.Removals.{Removal, Removals, all-removals}
-use Rattle.maps_forward_model.specs.Model.{accumulateAll, withCorners, propagateAll, length-downs, length-cornered, length-ups}
+use Rattle.maps_forward_model.specs.Model.{accumulateAll, withCorners, propagateAll, length-accumulateAll, length-withCorners, length-propagateAll}
 use Rattle.maps_forward_model.specs.RemovalStep.{Room}
-use Rattle.maps_forward_model.specs.Accumulate as Falling
-use Rattle.maps_forward_model.specs.Propagate as Rising
+use Rattle.maps_forward_model.specs.Accumulate as Accumulate
+use Rattle.maps_forward_model.specs.Propagate as Propagate
 use Rattle.maps_forward_model.specs.Propagate.{Ceiling}
 use Rattle.maps_forward_model.specs.Thirds.{ThirdsPre, ThirdsWritten}
 
@@ -66,7 +66,7 @@ stored-length n t done j s = omega (arith, s)
 stored-length n t (step e e′ gs h o f s tr) j q = omega (arith, stored-length n t tr (suc j) (q .3))
 
 -- what has come down to v1
-settled-last : (T : ℕ) (o f : ℕ → ℕ) (F : ℕ → ℤ) (bs : List ℤ) {C : List ℕ} (tr : Trace T o f C) → Falling.Settled T o f F bs tr →
+settled-last : (T : ℕ) (o f : ℕ → ℕ) (F : ℕ → ℤ) (bs : List ℤ) {C : List ℕ} (tr : Trace T o f C) → Accumulate.Settled T o f F bs tr →
     coordinate bs 1 (o 2) ≡ F 2
 settled-last T o f F bs done k = k
 settled-last T o f F bs (step e e′ gs h q a s tr) k = settled-last T o f F bs tr (k .2)
@@ -153,16 +153,16 @@ module _ {n : ℕ} {ts ls : List ℕ} {s : List ℤ} (P : Peeled n ts ls s) (ws 
   long-zeros = length-map bs (λ (_ : ℤ). pos 0) ∙ long
 
   pub rooms : (k : ℕ) → k < n - 2 → Room ts t ws (t .mark (2 * k + 1)) (accumulateAll ts t ws k zeros)
-  rooms = Falling.rooms ts ls sph size R t words ws zeros long-zeros D small (weight-small ws low) (P .stored) tu (zeros-at bs 1)
+  rooms = Accumulate.rooms ts ls sph size R t words ws zeros long-zeros D small (weight-small ws low) (P .stored) tu (zeros-at bs 1)
 
   abbrev low-end : List ℤ
   low-end = accumulateAll ts t ws (n - 2) zeros
 
-  settled : Falling.Settled T (org ts) (opp ts) F low-end (R .trace)
-  settled = Falling.settled ts ls sph size R t words ws zeros long-zeros D small (weight-small ws low) (P .stored) tu (zeros-at bs 1)
+  settled : Accumulate.Settled T (org ts) (opp ts) F low-end (R .trace)
+  settled = Accumulate.settled ts ls sph size R t words ws zeros long-zeros D small (weight-small ws low) (P .stored) tu (zeros-at bs 1)
 
   long-low : length low-end ≡ 3 * n
-  long-low = length-downs ts t ws (n - 2) zeros ∙ long-zeros
+  long-low = length-accumulateAll ts t ws (n - 2) zeros ∙ long-zeros
 
   -- ---- up
 
@@ -170,22 +170,22 @@ module _ {n : ℕ} {ts ls : List ℕ} {s : List ℤ} (P : Peeled n ts ls s) (ws 
   base = withCorners ts low-end
 
   long-base : length base ≡ 3 * n
-  long-base = length-cornered ts low-end ∙ long-low
+  long-base = length-withCorners ts low-end ∙ long-low
 
-  rims : Rising.Stands ts ls sph R t D base (org ts 0) × Rising.Stands ts ls sph R t D base (org ts 2)
-  rims = Rising.corners-stand ts ls sph R t D low-end long-low (settled-last T (org ts) (opp ts) F low-end (R .trace) settled)
+  rims : Propagate.Stands ts ls sph R t D base (org ts 0) × Propagate.Stands ts ls sph R t D base (org ts 2)
+  rims = Propagate.corners-stand ts ls sph R t D low-end long-low (settled-last T (org ts) (opp ts) F low-end (R .trace) settled)
 
-  settled-base : Falling.Settled T (org ts) (opp ts) F base (R .trace)
-  settled-base = Rising.settled-cornered ts ls sph R t D low-end long-low (R .trace) tu settled
+  settled-base : Accumulate.Settled T (org ts) (opp ts) F base (R .trace)
+  settled-base = Propagate.settled-withCorners ts ls sph R t D low-end long-low (R .trace) tu settled
 
   pub ceilings : (k : ℕ) → k < n - 2 → Ceiling ts t (t .mark (2 * (n - 2 - suc k) + 1)) (propagateAll ts t (n - 2) k base)
-  ceilings = Rising.ceilings ts ls sph R t D base long-base (rims .0) (rims .1) small near (P .stored) tu settled-base
+  ceilings = Propagate.ceilings ts ls sph R t D base long-base (rims .0) (rims .1) small near (P .stored) tu settled-base
 
   abbrev high : List ℤ
   high = propagateAll ts t (n - 2) (n - 2) base
 
   stand : (i : ℕ) → i < n → (coordinate high 0 i ≡ B0 i) × (coordinate high 1 i ≡ B1 i)
-  stand = Rising.all-stand ts ls sph R t D base long-base (rims .0) (rims .1) small near (P .stored) tu settled-base
+  stand = Propagate.all-stand ts ls sph R t D base long-base (rims .0) (rims .1) small near (P .stored) tu settled-base
 
   -- ---- b2
 
@@ -198,7 +198,7 @@ module _ {n : ℕ} {ts ls : List ℕ} {s : List ℤ} (P : Peeled n ts ls s) (ws 
   high-small (suc (suc c)) i l h = absurd (omega arith)
 
   long-high : length high ≡ 3 * n
-  long-high = length-ups ts t (n - 2) (n - 2) base ∙ long-base
+  long-high = length-propagateAll ts t (n - 2) (n - 2) base ∙ long-base
 
   pub thirds-pre : ThirdsPre n ts high
   thirds-pre = record { few = P .labelled .most; first = v0-in; long = long-high; small = high-small }
@@ -206,7 +206,7 @@ module _ {n : ℕ} {ts ls : List ℕ} {s : List ℤ} (P : Peeled n ts ls s) (ws 
   N-is : coordinate high 0 (org ts 0) ≡ total ws
   N-is =
       let e : length ts / 3 - 1 ≡ weightsLength n = omega (arith, P .labelled .size) in
-      stand (org ts 0) v0-in .0 ∙ Rising.N-is ts ls sph R t D .1 ∙ through-last ts ls sph size R ws ∙ ap (λ (k : ℕ). sum (weight ws) 1 k) e
+      stand (org ts 0) v0-in .0 ∙ Propagate.N-is ts ls sph R t D .1 ∙ through-last ts ls sph size R ws ∙ ap (λ (k : ℕ). sum (weight ws) 1 k) e
       ∙ sym (total-sum n ts ls (P .labelled .size) U ws len)
 
   -- ---- all of it
@@ -248,9 +248,9 @@ module _ {n : ℕ} {ts ls : List ℕ} {s : List ℤ} (P : Peeled n ts ls s) (ws 
   pub few : n < 65536
   few = omega (arith, P .labelled .most)
 
-  pub down-asks : (k : ℕ) → k < n - 2 → (t .mark (2 * k + 1) < n) × Room ts t ws (t .mark (2 * k + 1)) (accumulateAll ts t ws k zeros)
-  down-asks k h = (marks k h, rooms k h)
+  pub accumulateAll-asks : (k : ℕ) → k < n - 2 → (t .mark (2 * k + 1) < n) × Room ts t ws (t .mark (2 * k + 1)) (accumulateAll ts t ws k zeros)
+  accumulateAll-asks k h = (marks k h, rooms k h)
 
-  pub up-asks : (k : ℕ) → k < n - 2 →
+  pub propagateAll-asks : (k : ℕ) → k < n - 2 →
       (t .mark (2 * (n - 2 - suc k) + 1) < n) × Ceiling ts t (t .mark (2 * (n - 2 - suc k) + 1)) (propagateAll ts t (n - 2) k base)
-  up-asks k h = (marks (n - 2 - suc k) (omega arith), ceilings k h)
+  propagateAll-asks k h = (marks (n - 2 - suc k) (omega arith), ceilings k h)

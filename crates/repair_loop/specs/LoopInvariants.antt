@@ -30,7 +30,7 @@ use Rattle.repair_model.specs.LoopState.{State, Passed, more-fuel, within, at-f
 use Rattle.maps_limits.specs.Limits.{coordinate-range}
 use Rattle.maps_forward_model.specs.Thirds.{ThirdsPre, ThirdsWritten}
 use Rattle.repair_loop.specs.OneRaise.{RaisePre, Tried, LoopPre}
-use Rattle.repair_loop.specs.UpdateOnReady.{updatable, timesMoved-moved}
+use Rattle.repair_loop.specs.UpdateOnReady.{update-pre, timesMoved-moved}
 use Rattle.repair_loop.specs.declared.Ended.{Ended}
 use Rattle.repair_loop.specs.declared.Ended.the-variants.{Finished, Stopped}
 use Rattle.repair_loop.specs.Answer.{endToAnswer, Halts, Ends}
@@ -55,8 +55,8 @@ module _ (n : ℕ) (ts ls : List ℕ) (ws₀ : List ℤ) (len : length ws₀ ≡
   pub fuel : count < 2 * n - 4
   fuel = more-fuel n ts ls ws₀ len ws bs s sum count full t S
 
-  pub raisable : t < 2 * n - 4 → 10 * n ≤ length s → RaisePre n ts ws bs s t sum
-  raisable h room =
+  pub raise-pre : t < 2 * n - 4 → 10 * n ≤ length s → RaisePre n ts ws bs s t sum
+  raise-pre h room =
       let w = within n ts ls ws₀ len ws bs s sum count full t S in
       let small = raise-room n ts ls s (S .ready) ws bs (S .drawn) t above h (S .long) (S .light) in
       record {
@@ -67,7 +67,7 @@ module _ (n : ℕ) (ts ls : List ℕ) (ws₀ : List ℤ) (len : length ws₀ ≡
         light = S .light;
         within = w;
         small = small;
-        updatable = updatable n ts ls s (S .ready) t above h bs (raiseAt (tablesOf s) bs t) room (S .drawn .long) w small;
+        update-pre = update-pre n ts ls s (S .ready) t above h bs (raiseAt (tablesOf s) bs t) room (S .drawn .long) w small;
       }
 
   module _ (h : t < 2 * n - 4) (ws′ bs′ : List ℤ) (r : ℕ) (R : Tried n ts s ws bs ws′ bs′ t r) where
@@ -138,7 +138,7 @@ module _ (n : ℕ) (ts : List ℕ) (s ws₀ bs₀ : List ℤ) (sum : ℕ) (M : L
     now = L .state (M .labels) (M .ready) (M .drawn)
 
     pub can-raise : t < 2 * n - 4 → RaisePre n ts ws bs s t total
-    can-raise h = raisable n ts (M .labels) ws₀ (M .long) ws bs s total count full t now h (M .room)
+    can-raise h = raise-pre n ts (M .labels) ws₀ (M .long) ws bs s total count full t now h (M .room)
 
     pub fueled : count < 2 * n - 4
     fueled = fuel n ts (M .labels) ws₀ (M .long) ws bs s total count full t now

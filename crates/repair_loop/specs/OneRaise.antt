@@ -64,7 +64,7 @@ pub record RaisePre (n : ℕ) (ts : List ℕ) (ws bs s : List ℤ) (t sum : ℕ)
   pub light : totalAbs ws ≤ limit
   pub within : row10 bs ≡ false
   pub small : natAbs (raiseAt (tablesOf s) bs t) ≤ 2 * limit + 1
-  pub updatable : UpdatePre n ts s bs t (raiseAt (tablesOf s) bs t)
+  pub update-pre : UpdatePre n ts s bs t (raiseAt (tablesOf s) bs t)
 
 -- r is the sum with the raise; past the limit nothing has changed, otherwise the raise is made
 pub record Tried (n : ℕ) (ts : List ℕ) (s ws bs ws′ bs′ : List ℤ) (t r : ℕ) : Type 0 where

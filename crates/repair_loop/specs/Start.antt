@@ -52,8 +52,8 @@ pub record StartPre (n : ℕ) (ts : List ℕ) (ws bs s : List ℤ) : Type 0 wher
   pub room : 10 * n ≤ length s
 
 -- its words can be laid out
-pub packable : (n : ℕ) (ts ls : List ℕ) (s : List ℤ) → Peeled n ts ls s → 10 * n ≤ length s → PackPre n s × (org ts 0 < n) × (org ts 2 < n)
-packable n ts ls s P room =
+pub pack-pre : (n : ℕ) (ts ls : List ℕ) (s : List ℤ) → Peeled n ts ls s → 10 * n ≤ length s → PackPre n s × (org ts 0 < n) × (org ts 2 < n)
+pack-pre n ts ls s P room =
     let l = P .labelled in (
       record {
         some = l .sphere .least;
@@ -77,10 +77,10 @@ module _ (n : ℕ) (ts : List ℕ) (s s₁ s₂ : List ℤ) (L : Packed n ts (wi
   pub all-ready : (ls : List ℕ) → Peeled n ts ls s → Ready n ts ls s₂
   all-ready ls P = ready P s₂ (preordered L N (rooted P))
 
-  pub loopable : (ws bs bs′ : List ℤ) (sum : ℕ) (S : StartPre n ts ws bs s) → length s₂ ≡ length s → bs′ ≡ forward n ts (S .labels) ws →
+  pub loop-pre : (ws bs bs′ : List ℤ) (sum : ℕ) (S : StartPre n ts ws bs s) → length s₂ ≡ length s → bs′ ≡ forward n ts (S .labels) ws →
       sum ≡ totalAbs ws →
       LoopPre n ts ws bs′ s₂ sum
-  loopable ws bs bs′ sum S long drawn summed =
+  loop-pre ws bs bs′ sum S long drawn summed =
       record {
         labels = S .labels;
         ready = all-ready (S .labels) (S .peeled);

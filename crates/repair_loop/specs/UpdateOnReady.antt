@@ -16,9 +16,9 @@ use Rattle.repair_model.specs.Ready.{Ready, org-low, by-first, by-second}
 use Rattle.repair_update.specs.WalkLoop.{UpdatePre, WalkMoved}
 
 module _ (n : ℕ) (ts ls : List ℕ) (s : List ℤ) (Y : Ready n ts ls s) (t : ℕ) (above : 0 < t) (h : t < 2 * n - 4) where
-  pub updatable : (bs : List ℤ) (x : ℤ) → 10 * n ≤ length s → length bs ≡ 3 * n → row10 bs ≡ false → natAbs x ≤ 2 * limit + 1 →
+  pub update-pre : (bs : List ℤ) (x : ℤ) → 10 * n ≤ length s → length bs ≡ 3 * n → row10 bs ≡ false → natAbs x ≤ 2 * limit + 1 →
       UpdatePre n ts s bs t x
-  updatable bs x room long within light =
+  update-pre bs x room long within light =
       record {
         least = Y .sphere .least;
         most = Y .most;

@@ -27,12 +27,12 @@ use Rattle.theory_repair.specs.Coordinates.{inner-range}
 use Rattle.theory_repair.specs.Areas.{Extended, good}
 use Rattle.theory_repair.specs.Raises.{length-addTo, raise-keeps, raise-extends, bad-raise}
 use Rattle.theory_repair.specs.Repairs.{repair-outcome}
-use Rattle.theory_repair.specs.AllWalks.{line}
-use Rattle.theory_repair.specs.RegionBorders.{off-lines}
+use Rattle.theory_repair.specs.AllWalks.{walkTriangles}
+use Rattle.theory_repair.specs.RegionBorders.{off-walks}
 use Rattle.scratch_tables.specs.Tables.{tablesOf}
 use Rattle.repair_model.specs.Raise.{Drawn, Moved, drawn-within, drawn-first, moved-drawn, bad-kept}
 use Rattle.repair_model.specs.Search.{badAt, raiseAt, Found, Next, first-at, first-not}
-use Rattle.repair_model.specs.Ready.{Ready, line-is, tells-bad, tells-raise}
+use Rattle.repair_model.specs.Ready.{Ready, walkOn-is, tells-bad, tells-raise}
 
 -- ---- one iteration of the definition's loop
 
@@ -211,15 +211,15 @@ module _ (n : ℕ) (ts ls : List ℕ) (ws₀ : List ℤ) (len : length ws₀ ≡
         bad-after : (i : ℕ) → 0 < i → i < 2 * n - 4 → badAt (tablesOf s) bs′ i ≡ bad ts ls (forward n ts ls after) i
         bad-after i p q = tells-bad n ts ls s (S .ready) after bs′ drawn-after i p q
 
-        -- Below `low` no triangle is bad: those below `full` are extended, those on a line have been looked at, and the others keep their areas.
+        -- Below `low` no triangle is bad: those below `full` are extended, those on a walk have been looked at, and the others keep their areas.
         good-below : (i : ℕ) → 0 < i → full ≤ i → i < N .low → bad ts ls (forward n ts ls after) i ≡ false
         good-below i p l m =
             let q : i < 2 * n - 4 = omega (arith, N .low-most) in
-            elim (sorted (λ c. line ts ls c (length ts / 3) t) i) [
-              | inl o ↦ sym (bad-after i p q) ∙ N .clear (o .0) (o .1) i (rw (line-is n ts ls s (S .ready) (o .0) (o .1) t k) (o .2)) l m
+            elim (sorted (λ c. walkTriangles ts ls c (length ts / 3) t) i) [
+              | inl o ↦ sym (bad-after i p q) ∙ N .clear (o .0) (o .1) i (rw (walkOn-is n ts ls s (S .ready) (o .0) (o .1) t k) (o .2)) l m
               | inr o ↦
                   bad-kept n ts ls unit-maps size ws (S .long) t above inside x i p (omega (arith, size))
-                  (off-lines ts ls sphere size (S .ready .realizer) t i above inside p (omega (arith, size)) o)
+                  (off-walks ts ls sphere size (S .ready .realizer) t i above inside p (omega (arith, size)) o)
                   ∙ S .before i p (omega (arith, N .low-most))
             ]
 

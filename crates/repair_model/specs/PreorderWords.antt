@@ -11,7 +11,7 @@ use Rattle.repair_model.specs.RemovalOrder.{removedAt}
 use Rattle.repair_model.specs.PackedWords.{pack, walkDart, endFlags, cornerWord, WalksPacked}
 
 -- Of triangle t: where its colour-2 walk goes. A walk that passes there moves the subtree of one end of the side that it crosses: of the one whose dart to
--- the left that is, with 1; of the one whose dart from the right it is, with 2. `from` and `size` say where the subtrees stand in the two rows.
+-- the left that is, with 1; of the one whose dart from the right it is, with 2. `from` and `size` say where the subtrees stand in the two preorders.
 unfoldable pub moveWord : List ℕ → Tables → (ℕ → ℕ) → (ℕ → ℕ) → (ℕ → ℕ) → (ℕ → ℕ) → ℕ → ℕ
 unfolding pack walkDart tri org tip endFlags
 moveWord ts T from0 size0 from1 size1 t =
@@ -21,7 +21,7 @@ moveWord ts T from0 size0 from1 size1 t =
     let f = endFlags T o a b in
     cond (eqb f 1) (pack (tri o) (from0 a) (size0 a) 1) (cond (eqb f 2) (pack (tri o) (from1 b) (size1 b) 2) (pack (tri o) a b f))
 
--- colour 0 has its row in `count`, colour 1 in the even marks
+-- colour 0 has its preorder in `count`, colour 1 in the even marks
 pub record Preordered (n : ℕ) (ts : List ℕ) (T S : Tables) : Type 0 where
   pub from0 : ℕ → ℕ
   pub size0 : ℕ → ℕ

@@ -20,7 +20,7 @@ use Rattle.theory_realizer.specs.Units.{Units, bit, unit0, unit1, vertexAt}
 use Rattle.theory_crossings.specs.UnitMaps.{units}
 use Rattle.theory_repair.specs.Coordinates.{coordinates-total}
 use Rattle.theory_repair.specs.Bounds.{row10-forward}
-use Rattle.theory_repair.specs.AllWalks.{line}
+use Rattle.theory_repair.specs.AllWalks.{walkTriangles}
 use Rattle.theory_repair.specs.RegionBorders.{beyond-below}
 use Rattle.scratch_tables.specs.Tables.{Tables, tablesOf}
 use Rattle.labels_tables.specs.LabelledTables.{oppositeIn, labelIn, Stored}
@@ -28,7 +28,7 @@ use Rattle.repair_area.specs.Areas.{Agree, raise-small}
 use Rattle.repair_model.specs.PreorderWords.{Preordered}
 use Rattle.repair_model.specs.Update.{timesMoved, timesMoved-1, timesMoved-1-last, timesMoved-2, timesMoved-2-first}
 use Rattle.repair_model.specs.Raise.{Drawn}
-use Rattle.repair_model.specs.Search.{badAt, raiseAt, lineOn, otherWalks-are, next-is, bad-is, raise-is}
+use Rattle.repair_model.specs.Search.{badAt, raiseAt, walkOn, otherWalks-are, next-is, bad-is, raise-is}
 
 pub record Ready (n : ℕ) (ts ls : List ℕ) (s : List ℤ) : Type 0 where
   pub most : n ≤ 4096
@@ -63,8 +63,8 @@ module _ (n : ℕ) (ts ls : List ℕ) (s : List ℤ) (Y : Ready n ts ls s) where
 
   -- ---- walks
 
-  pub line-is : (c : ℕ) → c < 3 → (t : ℕ) → t < 2 * n - 4 → lineOn (tablesOf s) c (2 * n - 4) t ≡ line ts ls c (length ts / 3) t
-  line-is c b t k =
+  pub walkOn-is : (c : ℕ) → c < 3 → (t : ℕ) → t < 2 * n - 4 → walkOn (tablesOf s) c (2 * n - 4) t ≡ walkTriangles ts ls c (length ts / 3) t
+  walkOn-is c b t k =
       let e : length ts / 3 ≡ 2 * n - 4 = omega (arith, Y .size) in
       rw e
       (otherWalks-are ts ls (tablesOf s) c

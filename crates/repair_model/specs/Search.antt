@@ -22,8 +22,8 @@ use Rattle.theory_sphere.specs.Sphere.{Sphere}
 use Rattle.theory_sphere.specs.Darts.{next-next, next-prev, next-below, prev-below}
 use Rattle.theory_realizer.specs.Realizer.{Realizer}
 use Rattle.theory_realizer.specs.Units.{vertexAt}
-use Rattle.theory_repair.specs.RegionBorders.{line-on}
-use Rattle.theory_repair.specs.AllWalks.{beyond, line}
+use Rattle.theory_repair.specs.RegionBorders.{walkTriangles-on}
+use Rattle.theory_repair.specs.AllWalks.{beyond, walkTriangles}
 use Rattle.scratch_tables.specs.Tables.{Tables}
 use Rattle.labels_tables.specs.LabelledTables.{oppositeIn, labelIn, apexDart}
 use Rattle.repair_area.specs.Areas.{badOf, raiseOf, Agree, bad-of, raise-of}
@@ -47,14 +47,14 @@ unfolding field0 field1
 nextOn S c t = cond (eqb t 0) 0 (cond (eqb c 2) (field0 (S .op (3 * t))) (cond (eqb c 0) (field0 (S .op (3 * t + 2))) (field1 (S .op (3 * t + 2)))))
 
 -- t, and those after it until the outer triangle, of k at most
-unfoldable pub lineOn : Tables → ℕ → ℕ → ℕ → List ℕ
+unfoldable pub walkOn : Tables → ℕ → ℕ → ℕ → List ℕ
 unfolding nextOn
-lineOn S c zero t = []
-lineOn S c (suc k) t = elim (eqb t 0) [ true ↦ [] | false ↦ t ∷ lineOn S c k (nextOn S c t) ]
+walkOn S c zero t = []
+walkOn S c (suc k) t = elim (eqb t 0) [ true ↦ [] | false ↦ t ∷ walkOn S c k (nextOn S c t) ]
 
-pub lineOn-on : (S : Tables) (c k t : ℕ) → t ≢ 0 → lineOn S c (suc k) t ≡ t ∷ lineOn S c k (nextOn S c t)
-unfolding lineOn
-lineOn-on S c k t d = ap (λ (x : Bool). elim x [ true ↦ [] | false ↦ t ∷ lineOn S c k (nextOn S c t) ]) (ne-eqb t 0 d)
+pub walkOn-on : (S : Tables) (c k t : ℕ) → t ≢ 0 → walkOn S c (suc k) t ≡ t ∷ walkOn S c k (nextOn S c t)
+unfolding walkOn
+walkOn-on S c k t d = ap (λ (x : Bool). elim x [ true ↦ [] | false ↦ t ∷ walkOn S c k (nextOn S c t) ]) (ne-eqb t 0 d)
 
 -- r is the first number from a on, and below b, that passes the test; b, if none does
 pub record Found (p : ℕ → Bool) (a b r : ℕ) : Type 0 where
@@ -68,7 +68,7 @@ pub record Next (S : Tables) (bs : List ℤ) (full t to r : ℕ) : Type 0 where
   pub low : ℕ
   pub low-least : full ≤ low
   pub low-most : low ≤ t
-  pub clear : (c : ℕ) → c < 3 → (g : ℕ) → g ∈ lineOn S c to t → full ≤ g → g < low → badAt S bs g ≡ false
+  pub clear : (c : ℕ) → c < 3 → (g : ℕ) → g ∈ walkOn S c to t → full ≤ g → g < low → badAt S bs g ≡ false
   pub found : Found (badAt S bs) low to r
 
 -- ---- the first of a run
@@ -93,16 +93,16 @@ first-not p a (suc k) b = rw (b a (omega arith) (omega arith)) (first-not p (suc
 -- steps that are the definition's make the same walk
 pub otherWalks-are : (ts ls : List ℕ) (S : Tables) (c : ℕ) → ((u : ℕ) → 0 < u → u < length ts / 3 → nextOn S c u ≡ beyond ts ls c u) →
     ((u : ℕ) → 0 < u → u < length ts / 3 → beyond ts ls c u < length ts / 3) → (k t : ℕ) → t < length ts / 3 →
-    lineOn S c k t ≡ line ts ls c k t
-unfolding lineOn line
+    walkOn S c k t ≡ walkTriangles ts ls c k t
+unfolding walkOn walkTriangles
 otherWalks-are ts ls S c same stay zero t h = refl
 otherWalks-are ts ls S c same stay (suc k) t h =
     elim (ℕ-discrete t 0) [
       | yes z ↦ rw z
       | no z ↦
           let p : 0 < t = omega arith in
-          lineOn-on S c k t z ∙ ap (λ (u : ℕ). t ∷ lineOn S c k u) (same t p h)
-          ∙ ap (λ (us : List ℕ). t ∷ us) (otherWalks-are ts ls S c same stay k (beyond ts ls c t) (stay t p h)) ∙ sym (line-on ts ls c k t z)
+          walkOn-on S c k t z ∙ ap (λ (u : ℕ). t ∷ walkOn S c k u) (same t p h)
+          ∙ ap (λ (us : List ℕ). t ∷ us) (otherWalks-are ts ls S c same stay k (beyond ts ls c t) (stay t p h)) ∙ sym (walkTriangles-on ts ls c k t z)
     ]
 
 -- the lowest part of a word, whatever stands above it

@@ -1,4 +1,4 @@
--- What a walk moves by the words of repair: each vertex as often as the weight of the walk's first triangle is part of its coordinate, 1 by the row of colour
+-- What a walk moves by the words of repair: each vertex as often as the weight of the walk's first triangle is part of its coordinate, 1 by the preorder of colour
 -- 0 and 0 by that of colour 1. Assumes nothing.
 use Prim.Native.Nat.{ℕ, zero, suc, _+_, _-_, _*_, _/_, _≤_, _<_}
 use mathlib.Core.Path.{_≡_, refl, sym, ap, _∙_, subst}
@@ -34,39 +34,39 @@ use Rattle.repair_model.specs.PreorderWords.{moveWord, Preordered}
 use Rattle.repair_model.specs.Neighbours.{whole, U, onward-left, onward-right, zero-not-last, one-not-first, way-not-left, way-not-right}
 use Rattle.repair_model.specs.Neighbours.{left-not-last, right-not-first}
 
--- How often the walk from triangle t on, of k steps at most, comes by vertex i in the row: f is the flag (1 or 2) of the words that move subtrees of that
--- row.
+-- How often the walk from triangle t on, of k steps at most, comes by vertex i in the preorder: f is the flag (1 or 2) of the words that move subtrees of that
+-- preorder.
 unfoldable pub timesMoved : ℕ → (ℕ → ℕ) → (ℕ → ℕ) → ℕ → ℕ → ℕ → ℕ
 unfolding field0 field1 field2 field3 times
-timesMoved f row op zero t i = 0
-timesMoved f row op (suc k) t i = elim (eqb t 0) [
+timesMoved f order op zero t i = 0
+timesMoved f order op (suc k) t i = elim (eqb t 0) [
   | true ↦ 0
-  | false ↦ let w = op (3 * t) in cond (eqb (field3 w) f) (times row (field1 w) (field2 w) i) 0 + timesMoved f row op k (field0 w) i
+  | false ↦ let w = op (3 * t) in cond (eqb (field3 w) f) (times order (field1 w) (field2 w) i) 0 + timesMoved f order op k (field0 w) i
 ]
 
 -- how often one word comes by it
 unfoldable pub moved : ℕ → (ℕ → ℕ) → ℕ → ℕ → ℕ
 unfolding field1 field2 field3 times
-moved f row w i = cond (eqb (field3 w) f) (times row (field1 w) (field2 w) i) 0
+moved f order w i = cond (eqb (field3 w) f) (times order (field1 w) (field2 w) i) 0
 
-module _ (f : ℕ) (row op : ℕ → ℕ) where
-  pub timesMoved-home : (k i : ℕ) → timesMoved f row op k 0 i ≡ 0
+module _ (f : ℕ) (order op : ℕ → ℕ) where
+  pub timesMoved-home : (k i : ℕ) → timesMoved f order op k 0 i ≡ 0
   unfolding timesMoved
   timesMoved-home zero i = refl
   timesMoved-home (suc k) i = refl
 
-  pub timesMoved-on : (k t i : ℕ) → t ≢ 0 → timesMoved f row op (suc k) t i
-      ≡ moved f row (op (3 * t)) i + timesMoved f row op k (field0 (op (3 * t))) i
+  pub timesMoved-on : (k t i : ℕ) → t ≢ 0 → timesMoved f order op (suc k) t i
+      ≡ moved f order (op (3 * t)) i + timesMoved f order op k (field0 (op (3 * t))) i
   unfolding timesMoved moved
   timesMoved-on k t i d = rw (ne-eqb t 0 d, timesMoved)
 
-pub moved-yes : (f : ℕ) (row : ℕ → ℕ) (w i : ℕ) → field3 w ≡ f → moved f row w i ≡ times row (field1 w) (field2 w) i
+pub moved-yes : (f : ℕ) (order : ℕ → ℕ) (w i : ℕ) → field3 w ≡ f → moved f order w i ≡ times order (field1 w) (field2 w) i
 unfolding moved
-moved-yes f row w i e = rw (eq-eqb (field3 w) f e)
+moved-yes f order w i e = rw (eq-eqb (field3 w) f e)
 
-pub moved-no : (f : ℕ) (row : ℕ → ℕ) (w i : ℕ) → field3 w ≢ f → moved f row w i ≡ 0
+pub moved-no : (f : ℕ) (order : ℕ → ℕ) (w i : ℕ) → field3 w ≢ f → moved f order w i ≡ 0
 unfolding moved
-moved-no f row w i d = rw (ne-eqb (field3 w) f d)
+moved-no f order w i d = rw (ne-eqb (field3 w) f d)
 
 -- ---- on a labelled mesh
 
@@ -140,8 +140,8 @@ module _ {n : ℕ} (ts ls : List ℕ) (sph : Sphere n (length ts / 3) (org ts) (
         Comes f name dart from many o x
     rests : field3 x ≢ f → ((j : ℕ) → j < n - 2 → o ≢ dart j) → Comes f name dart from many o x
 
-  record Colour (f : ℕ) (row op name up dart from many : ℕ → ℕ) : Type 0 where
-    subtree : Subtree n (n - 2) name up row from many
+  record Colour (f : ℕ) (order op name up dart from many : ℕ → ℕ) : Type 0 where
+    subtree : Subtree n (n - 2) name up order from many
     leads : (t : ℕ) → 0 < t → t < length ts / 3 → field0 (op (3 * t)) ≡ tri (walkDart w t)
     comes-by : (t : ℕ) → 0 < t → t < length ts / 3 → Comes f name dart from many (walkDart w t) (op (3 * t))
     low : (j : ℕ) → j < n - 2 → name j < n
@@ -154,13 +154,13 @@ module _ {n : ℕ} (ts ls : List ℕ) (sph : Sphere n (length ts / 3) (org ts) (
     no-way : (j : ℕ) → j < n - 2 → (g : ℕ) → Top g → next g ≢ dart j
     later : (j : ℕ) → j < n - 2 → From n (outer ts) name (suc j) (up j)
 
-  module _ {f : ℕ} {row op name up dart from many : ℕ → ℕ} (C : Colour f row op name up dart from many) where
+  module _ {f : ℕ} {order op name up dart from many : ℕ → ℕ} (C : Colour f order op name up dart from many) where
     -- what a word that moves a subtree comes by
     subtree-moved : (x k i : ℕ) → k < n - 2 → i < n → field3 x ≡ f → field1 x ≡ from (name k) → field2 x ≡ many (name k) →
-        moved f row x i ≡ C .subtree .sub (name k) i
-    subtree-moved x k i h l e p q = moved-yes f row x i e ∙ rw (p, q) (C .subtree .range k i h l)
+        moved f order x i ≡ C .subtree .sub (name k) i
+    subtree-moved x k i h l e p q = moved-yes f order x i e ∙ rw (p, q) (C .subtree .range k i h l)
 
-    step-onward : (o x j : ℕ) → j < n - 2 → Comes f name dart from many o x → moved f row x (name j) ≡ bit (eqb o (dart j)) + moved f row x (up j)
+    step-onward : (o x j : ℕ) → j < n - 2 → Comes f name dart from many o x → moved f order x (name j) ≡ bit (eqb o (dart j)) + moved f order x (up j)
     step-onward o x j h (moves k l e p q c) =
         let a = subtree-moved x k (name j) l (C .low j h) e p q in
         let b = subtree-moved x k (up j) l (C .up-low j h) e p q in
@@ -172,27 +172,27 @@ module _ {n : ℕ} (ts ls : List ℕ) (sph : Sphere n (length ts / 3) (org ts) (
         ] in
         omega (arith, a, b, on, same)
     step-onward o x j h (rests e c) =
-        omega (arith, moved-no f row x (name j) e, moved-no f row x (up j) e, ap bit (ne-eqb o (dart j) (c j h)))
+        omega (arith, moved-no f order x (name j) e, moved-no f order x (up j) e, ap bit (ne-eqb o (dart j) (c j h)))
 
-    step-outside : (o x i : ℕ) → i < n → ((j : ℕ) → j < n - 2 → name j ≢ i) → Comes f name dart from many o x → moved f row x i ≡ 0
+    step-outside : (o x i : ℕ) → i < n → ((j : ℕ) → j < n - 2 → name j ≢ i) → Comes f name dart from many o x → moved f order x i ≡ 0
     step-outside o x i h d (moves k l e p q c) = subtree-moved x k i l h e p q ∙ C .subtree .outside k i l h d
-    step-outside o x i h d (rests e c) = moved-no f row x i e
+    step-outside o x i h d (rests e c) = moved-no f order x i e
 
     -- the walk: the vertex `name j` is moved as often as the walk crosses its dart, and as often as `up j`
     onward : (k t j : ℕ) → t < length ts / 3 → j < n - 2 →
-        timesMoved f row op k t (name j) ≡ hits (opp ts) (walk ts ls k t) (dart j) + timesMoved f row op k t (up j)
+        timesMoved f order op k t (name j) ≡ hits (opp ts) (walk ts ls k t) (dart j) + timesMoved f order op k t (up j)
     unfolding timesMoved hits walk
     onward zero t j l h = refl
     onward (suc k) t j l h =
         elim (ℕ-discrete t 0) [
-          | yes z ↦ rw (z, timesMoved-home f row op (suc k) (name j), timesMoved-home f row op (suc k) (up j))
+          | yes z ↦ rw (z, timesMoved-home f order op (suc k) (name j), timesMoved-home f order op (suc k) (up j))
           | no d ↦
               let z : 0 < t = omega arith in
               let x = op (3 * t) in
               let o = walkDart w t in
               let e = C .leads t z l in
-              let a = timesMoved-on f row op k t (name j) d ∙ ap (λ (s : ℕ). moved f row x (name j) + timesMoved f row op k s (name j)) e in
-              let b = timesMoved-on f row op k t (up j) d ∙ ap (λ (s : ℕ). moved f row x (up j) + timesMoved f row op k s (up j)) e in
+              let a = timesMoved-on f order op k t (name j) d ∙ ap (λ (s : ℕ). moved f order x (name j) + timesMoved f order op k s (name j)) e in
+              let b = timesMoved-on f order op k t (up j) d ∙ ap (λ (s : ℕ). moved f order x (up j) + timesMoved f order op k s (up j)) e in
               let s = step-onward o x j h (C .comes-by t z l) in
               let on = onward k (tri o) j (stays-in t z l) h in
               let c = ap (λ (ds : List ℕ). hits (opp ts) ds (dart j)) (walk-next t z l k) in
@@ -200,17 +200,17 @@ module _ {n : ℕ} (ts ls : List ℕ) (sph : Sphere n (length ts / 3) (org ts) (
               omega (arith, a, b, s, on, c, m)
         ]
 
-    outside : (k t i : ℕ) → t < length ts / 3 → i < n → ((j : ℕ) → j < n - 2 → name j ≢ i) → timesMoved f row op k t i ≡ 0
+    outside : (k t i : ℕ) → t < length ts / 3 → i < n → ((j : ℕ) → j < n - 2 → name j ≢ i) → timesMoved f order op k t i ≡ 0
     unfolding timesMoved
     outside zero t i l h d = refl
     outside (suc k) t i l h d =
         elim (ℕ-discrete t 0) [
-          | yes z ↦ rw (z, timesMoved-home f row op (suc k) i)
+          | yes z ↦ rw (z, timesMoved-home f order op (suc k) i)
           | no q ↦
               let z : 0 < t = omega arith in
               let x = op (3 * t) in
               let e = C .leads t z l in
-              let a = timesMoved-on f row op k t i q ∙ ap (λ (s : ℕ). moved f row x i + timesMoved f row op k s i) e in
+              let a = timesMoved-on f order op k t i q ∙ ap (λ (s : ℕ). moved f order x i + timesMoved f order op k s i) e in
               omega (arith, a, step-outside (walkDart w t) x i h d (C .comes-by t z l), outside k (tri (walkDart w t)) i (stays-in t z l) h d)
         ]
 
@@ -220,15 +220,15 @@ module _ {n : ℕ} (ts ls : List ℕ) (sph : Sphere n (length ts / 3) (org ts) (
         (up-other : (j : ℕ) → j < n - 2 → up j ≢ other)
         (end0 : outer ts 0 ≢ other → unit (outer ts 0) ≡ 0) (end1 : outer ts 1 ≢ other → unit (outer ts 1) ≡ 0)
         (below0 : outer ts 0 < n) (below1 : outer ts 1 < n) where
-      at-end : (q i : ℕ) → From n (outer ts) name q i → ((j : ℕ) → q ≤ j → j < n - 2 → name j ≡ i → timesMoved f row op k u i ≡ unit i)
+      at-end : (q i : ℕ) → From n (outer ts) name q i → ((j : ℕ) → q ≤ j → j < n - 2 → name j ≡ i → timesMoved f order op k u i ≡ unit i)
           →
           i ≢ other →
-          timesMoved f row op k u i ≡ unit i
+          timesMoved f order op k u i ≡ unit i
       at-end q i (first e) r d = rw e (outside k u (outer ts 0) l below0 (C .not-first) ∙ sym (end0 (λ c. d (e ∙ c))))
       at-end q i (last e) r d = rw e (outside k u (outer ts 1) l below1 (C .not-last) ∙ sym (end1 (λ c. d (e ∙ c))))
       at-end q i (removed j p h e) r d = r j p h e
 
-      agrees : (m q i : ℕ) → n - 2 ≤ m + q → From n (outer ts) name q i → i ≢ other → timesMoved f row op k u i ≡ unit i
+      agrees : (m q i : ℕ) → n - 2 ≤ m + q → From n (outer ts) name q i → i ≢ other → timesMoved f order op k u i ≡ unit i
       agrees zero q i b F d = at-end q i F (λ j p h e. absurd (omega arith)) d
       agrees (suc m) q i b F d =
           at-end q i F
@@ -558,7 +558,7 @@ module _ {n : ℕ} (ts ls : List ℕ) (sph : Sphere n (length ts / 3) (org ts) (
       inner : u < length ts / 3
       inner = omega (arith, steps)
 
-      -- by the row of colour 0 a vertex is moved as often as the weight of u is part of its coordinate 1, but for v1
+      -- by the preorder of colour 0 a vertex is moved as often as the weight of u is part of its coordinate 1, but for v1
       pub timesMoved-1 : (i : ℕ) → i < n → i ≢ outer ts 1 → timesMoved 1 (S .count) (S .op) (2 * n - 4) u i ≡ unit1 n ts ls u i
       unfolding Leaves
       timesMoved-1 i l d =
@@ -572,7 +572,7 @@ module _ {n : ℕ} (ts ls : List ℕ) (sph : Sphere n (length ts / 3) (org ts) (
       timesMoved-1-last = outside ts ls sph size R (T .op) across-is tag-is left-colour (2 * n - 4) u (outer ts 1) inner last-low
           (λ j m. removed-not1 sph R (named ts) T stored j m)
 
-      -- by the row of colour 1 the same for coordinate 0, but for v0
+      -- by the preorder of colour 1 the same for coordinate 0, but for v0
       pub timesMoved-2 : (i : ℕ) → i < n → i ≢ outer ts 0 → timesMoved 2 (λ j. S .mark (2 * j)) (S .op) (2 * n - 4) u i ≡ unit0 n ts ls u i
       unfolding Leaves
       timesMoved-2 i l d =

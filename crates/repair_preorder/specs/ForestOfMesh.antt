@@ -112,11 +112,11 @@ module _ {n : ℕ} {ts ls : List ℕ} {s : List ℤ} (P : Peeled n ts ls s) wher
     few : (d : ℕ) → org ts d < 65536
     few d = omega (arith, org-below d, P .labelled .most)
 
-    pub preorderable : PreorderPre n ts s′
+    pub preorder-pre : PreorderPre n ts s′
     unfolding removedWord tip
-    preorderable =
+    preorder-pre =
         record {
-          passable =
+          pass-pre =
               record {
                 some = sph .least;
                 few = P .labelled .most;

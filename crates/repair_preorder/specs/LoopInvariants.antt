@@ -41,26 +41,26 @@ odd-add colour k S =
     let u = parent colour w in
     odd-mark u ((S .mark (2 * u) + S .mark (2 * field0 w)) % 65536) S
 
-pub odd-begin : (root : ℕ) (S : Tables) → Odd S (initRoot root S)
+pub odd-root : (root : ℕ) (S : Tables) → Odd S (initRoot root S)
 unfolding initRoot setHead
-odd-begin root S = record { odd = λ k. refl }
+odd-root root S = record { odd = λ k. refl }
 
-pub odd-takes : (colour k : ℕ) (S : Tables) → Odd S (allocateRange colour k S)
+pub odd-allocate : (colour k : ℕ) (S : Tables) → Odd S (allocateRange colour k S)
 unfolding allocateRange setHead
-odd-takes colour k S = record { odd = λ k. refl }
+odd-allocate colour k S = record { odd = λ k. refl }
 
 pub odd-range : (colour t : ℕ) (S : Tables) → Odd S (storeRange colour t S)
 unfolding storeRange setOp
 odd-range colour zero S = odd-none S
 odd-range colour (suc j) S = record { odd = λ k. refl }
 
-odd-put : (colour i x : ℕ) (S : Tables) → Odd S (storeEntry colour i x S)
+odd-entry : (colour i x : ℕ) (S : Tables) → Odd S (storeEntry colour i x S)
 unfolding storeEntry setCount
-odd-put colour i x S = elim (tested (eqb colour 0)) [ inl e ↦ rw e (record { odd = λ k. refl }) | inr e ↦ rw e (odd-mark i x S) ]
+odd-entry colour i x S = elim (tested (eqb colour 0)) [ inl e ↦ rw e (record { odd = λ k. refl }) | inr e ↦ rw e (odd-mark i x S) ]
 
-pub odd-seat : (n colour k : ℕ) (S : Tables) → Odd S (storeVertex n colour k S)
+pub odd-store : (n colour k : ℕ) (S : Tables) → Odd S (storeVertex n colour k S)
 unfolding storeVertex
-odd-seat n colour k S = let v = field0 (S .mark (2 * k + 1)) in odd-put colour (clampIndex n (S .head v - 1)) v S
+odd-store n colour k S = let v = field0 (S .mark (2 * k + 1)) in odd-entry colour (clampIndex n (S .head v - 1)) v S
 
 pub odd-upward : (f : ℕ → Tables → Tables) → ((k : ℕ) (S : Tables) → Odd S (f k S)) → (k : ℕ) (S : Tables) → Odd S (upward f k S)
 unfolding upward
@@ -72,13 +72,13 @@ unfolding downward
 odd-downward f o zero S = odd-none S
 odd-downward f o (suc k) S = odd-then (o k S) (odd-downward f o k (f k S))
 
-pub odd-sized : (n colour : ℕ) (S : Tables) → Odd S (sizesComputed n colour S)
+pub odd-sizes : (n colour : ℕ) (S : Tables) → Odd S (sizesComputed n colour S)
 unfolding sizesComputed
-odd-sized n colour S = odd-then (odd-upward initSize odd-one n S) (odd-upward (addSize colour) (odd-add colour) (n - 2) (upward initSize n S))
+odd-sizes n colour S = odd-then (odd-upward initSize odd-one n S) (odd-upward (addSize colour) (odd-add colour) (n - 2) (upward initSize n S))
 
-pub odd-placed : (n colour root : ℕ) (S : Tables) → Odd S (positionsComputed n colour root S)
+pub odd-positions : (n colour root : ℕ) (S : Tables) → Odd S (positionsComputed n colour root S)
 unfolding positionsComputed
-odd-placed n colour root S = odd-then (odd-begin root S) (odd-downward (allocateRange colour) (odd-takes colour) (n - 2) (initRoot root S))
+odd-positions n colour root S = odd-then (odd-root root S) (odd-downward (allocateRange colour) (odd-allocate colour) (n - 2) (initRoot root S))
 
 pub odd-built : (n colour root : ℕ) (S : Tables) → Odd S (preorderBuilt n colour root S)
 unfolding preorderBuilt
@@ -86,8 +86,8 @@ odd-built n colour root S =
     let S₁ = sizesComputed n colour S in
     let S₂ = positionsComputed n colour root S₁ in
     let S₃ = upward (storeRange colour) (2 * n - 4) S₂ in
-    odd-then (odd-then (odd-sized n colour S) (odd-placed n colour root S₁))
-    (odd-then (odd-upward (storeRange colour) (odd-range colour) (2 * n - 4) S₂) (odd-upward (storeVertex n colour) (odd-seat n colour) (n - 2) S₃))
+    odd-then (odd-then (odd-sizes n colour S) (odd-positions n colour root S₁))
+    (odd-then (odd-upward (storeRange colour) (odd-range colour) (2 * n - 4) S₂) (odd-upward (storeVertex n colour) (odd-store n colour) (n - 2) S₃))
 
 -- ---- what is asked of scratch
 
@@ -100,8 +100,8 @@ pub record PassPre (n words : ℕ) (S : Tables) : Type 0 where
   pub left : (k : ℕ) → k < n - 2 → field1 (S .mark (2 * k + 1)) < n
   pub right : (k : ℕ) → k < n - 2 → field2 (S .mark (2 * k + 1)) < n
 
-passable-odd : {n words words′ : ℕ} {S S′ : Tables} → Odd S S′ → words′ ≡ words → PassPre n words S → PassPre n words′ S′
-passable-odd o e P =
+pass-pre-odd : {n words words′ : ℕ} {S S′ : Tables} → Odd S S′ → words′ ≡ words → PassPre n words S → PassPre n words′ S′
+pass-pre-odd o e P =
     record {
       some = P .some;
       few = P .few;
@@ -132,8 +132,8 @@ module _ (f : ℕ → Tables → Tables) (s₀ s : List ℤ) (k : ℕ) (U : Up f
       let q : k + 1 ≡ suc k = omega arith in
       record { long = l ∙ U .long; is = rw q (e ∙ ap (f k) (U .is)) }
 
-  pub up-passable : (n : ℕ) → ((k : ℕ) (S : Tables) → Odd S (f k S)) → PassPre n (length s₀) (tablesOf s₀) → PassPre n (length s) (tablesOf s)
-  up-passable n o P = rw (U .is) (passable-odd (odd-upward f o k (tablesOf s₀)) (U .long) P)
+  pub up-pass-pre : (n : ℕ) → ((k : ℕ) (S : Tables) → Odd S (f k S)) → PassPre n (length s₀) (tablesOf s₀) → PassPre n (length s) (tablesOf s)
+  up-pass-pre n o P = rw (U .is) (pass-pre-odd (odd-upward f o k (tablesOf s₀)) (U .long) P)
 
 module _ (f : ℕ → Tables → Tables) (m : ℕ) (s₀ s : List ℤ) (k : ℕ) (D : Down f m s₀ s k) where
   pub down-next : (s′ : List ℤ) → ((k : ℕ) (S : Tables) → Odd S (f k S)) → 0 < k → length s′ ≡ length s →
@@ -152,8 +152,8 @@ module _ (f : ℕ → Tables → Tables) (m : ℕ) (s₀ s : List ℤ) (k : ℕ)
   unfolding downward
   down-ends e = rw e at (D .rest)
 
-  pub down-passable : (n : ℕ) → PassPre n (length s₀) (tablesOf s₀) → PassPre n (length s) (tablesOf s)
-  down-passable n P = passable-odd (D .odd) (D .long) P
+  pub down-pass-pre : (n : ℕ) → PassPre n (length s₀) (tablesOf s₀) → PassPre n (length s) (tablesOf s)
+  down-pass-pre n P = pass-pre-odd (D .odd) (D .long) P
 
 pub down-begins : (f : ℕ → Tables → Tables) (m : ℕ) (s₀ : List ℤ) → Down f m s₀ s₀ m
 down-begins f m s₀ = record { long = refl; low = omega arith; odd = odd-none (tablesOf s₀); rest = refl }
@@ -176,93 +176,93 @@ parent-1 w colour u e eu = rw (ne-eqb colour 0 e) eu
 pub field-room : (f : ℕ → ℕ) (w m v words : ℕ) → v ≡ f w → w ≡ m → 10 * f m + 10 ≤ words → vertexIn words v
 field-room f w m v words e q h = omega (arith, e, ap f q)
 
-pub add-is : (colour k w u a v b : ℕ) (T T′ : Tables) → w ≡ T .mark (2 * k + 1) → u ≡ parent colour w → a ≡ T .mark (2 * u) → v ≡ field0 w
+pub addSize-is : (colour k w u a v b : ℕ) (T T′ : Tables) → w ≡ T .mark (2 * k + 1) → u ≡ parent colour w → a ≡ T .mark (2 * u) → v ≡ field0 w
     → b ≡ T .mark (2 * v) →
     T′ ≡ setMark (2 * u) ((a + b) % 65536) T → T′ ≡ addSize colour k T
 unfolding addSize
-add-is colour k w u a v b T T′ ew eu ea ev eb et = et ∙ rw (ea, eb, eu, ev, ew)
+addSize-is colour k w u a v b T T′ ew eu ea ev eb et = et ∙ rw (ea, eb, eu, ev, ew)
 
-pub takes-is : (colour k w v u e b r : ℕ) (T T′ T″ : Tables) → w ≡ T .mark (2 * k + 1) → v ≡ field0 w → u ≡ parent colour w →
+pub allocateRange-is : (colour k w v u e b r : ℕ) (T T′ T″ : Tables) → w ≡ T .mark (2 * k + 1) → v ≡ field0 w → u ≡ parent colour w →
     e ≡ T .head u → b ≡ T .mark (2 * v) →
     r ≡ e - b → T′ ≡ setHead v e T → T″ ≡ setHead u r T′ → T″ ≡ allocateRange colour k T
 unfolding allocateRange
-takes-is colour k w v u e b r T T′ T″ ew ev eu ee eb er e1 e2 = e2 ∙ rw (e1, er, ee, eb, ev, eu, ew)
+allocateRange-is colour k w v u e b r T T′ T″ ew ev eu ee eb er e1 e2 = e2 ∙ rw (e1, er, ee, eb, ev, eu, ew)
 
 module _ (colour w : ℕ) (T : Tables) where
-  pub ranged-is : (f v h m from b size a : ℕ) → f ≡ field3 w → f ≡ colour + 1 → v ≡ parent colour w → h ≡ T .head v → m ≡ h - 1 →
+  pub withRange-is : (f v h m from b size a : ℕ) → f ≡ field3 w → f ≡ colour + 1 → v ≡ parent colour w → h ≡ T .head v → m ≡ h - 1 →
       from ≡ field0 m → b ≡ T .mark (2 * v) → size ≡ field0 b → a ≡ field0 w → pack a from size f ≡ withRange colour w T
   unfolding withRange
-  ranged-is f v h m from b size a ef e ev eh em efr eb es ea =
+  withRange-is f v h m from b size a ef e ev eh em efr eb es ea =
       rw (eq-eqb (field3 w) (colour + 1) (sym ef ∙ e)) (rw (ef, efr, em, eh, es, eb, ea, ev))
 
-  pub ranged-not : (f : ℕ) → f ≡ field3 w → f ≢ colour + 1 → w ≡ withRange colour w T
+  pub withRange-not : (f : ℕ) → f ≡ field3 w → f ≢ colour + 1 → w ≡ withRange colour w T
   unfolding withRange
-  ranged-not f ef d = rw (ne-eqb (field3 w) (colour + 1) (λ q. d (ef ∙ q)))
+  withRange-not f ef d = rw (ne-eqb (field3 w) (colour + 1) (λ q. d (ef ∙ q)))
 
-pub range-is : (colour t w r : ℕ) (T T′ : Tables) → 0 < t → w ≡ T .op (3 * t) → r ≡ withRange colour w T → T′ ≡ setOp (3 * t) r T →
+pub storeRange-is : (colour t w r : ℕ) (T T′ : Tables) → 0 < t → w ≡ T .op (3 * t) → r ≡ withRange colour w T → T′ ≡ setOp (3 * t) r T →
     T′ ≡ storeRange colour t T
 unfolding storeRange
-range-is colour t w r T T′ h ew er et =
+storeRange-is colour t w r T T′ h ew er et =
     let q : t ≡ suc (t - 1) = omega arith in
     let e : storeRange colour t T ≡ setOp (3 * suc (t - 1)) (withRange colour (T .op (3 * suc (t - 1))) T) T = ap (λ (x : ℕ). storeRange colour x T) q in
     et ∙ rw (er, ew) (rw (sym q) at (sym e))
 
-pub within-yes : (n i : ℕ) → i < n → i ≡ clampIndex n i
+pub clampIndex-in : (n i : ℕ) → i < n → i ≡ clampIndex n i
 unfolding clampIndex
-within-yes n i h = rw (lt-ltb i n h)
+clampIndex-in n i h = rw (lt-ltb i n h)
 
-pub within-no : (n i : ℕ) → n ≤ i → 0 ≡ clampIndex n i
+pub clampIndex-out : (n i : ℕ) → n ≤ i → 0 ≡ clampIndex n i
 unfolding clampIndex
-within-no n i h = rw (le-ltb i n h)
+clampIndex-out n i h = rw (le-ltb i n h)
 
-pub put-count : (colour i x : ℕ) (T T′ : Tables) → colour ≡ 0 → T′ ≡ setCount i x T → T′ ≡ storeEntry colour i x T
+pub storeEntry-0 : (colour i x : ℕ) (T T′ : Tables) → colour ≡ 0 → T′ ≡ setCount i x T → T′ ≡ storeEntry colour i x T
 unfolding storeEntry
-put-count colour i x T T′ e et = et ∙ rw (eq-eqb colour 0 e)
+storeEntry-0 colour i x T T′ e et = et ∙ rw (eq-eqb colour 0 e)
 
-pub put-mark : (colour i x : ℕ) (T T′ : Tables) → colour ≢ 0 → T′ ≡ setMark (2 * i) x T → T′ ≡ storeEntry colour i x T
+pub storeEntry-1 : (colour i x : ℕ) (T T′ : Tables) → colour ≢ 0 → T′ ≡ setMark (2 * i) x T → T′ ≡ storeEntry colour i x T
 unfolding storeEntry
-put-mark colour i x T T′ e et = et ∙ rw (ne-eqb colour 0 e)
+storeEntry-1 colour i x T T′ e et = et ∙ rw (ne-eqb colour 0 e)
 
-pub seat-is : (n colour k w v h m i : ℕ) (T T′ : Tables) → w ≡ T .mark (2 * k + 1) → v ≡ field0 w → h ≡ T .head v → m ≡ h - 1 →
+pub storeVertex-is : (n colour k w v h m i : ℕ) (T T′ : Tables) → w ≡ T .mark (2 * k + 1) → v ≡ field0 w → h ≡ T .head v → m ≡ h - 1 →
     i ≡ clampIndex n m →
     T′ ≡ storeEntry colour i v T → T′ ≡ storeVertex n colour k T
 unfolding storeVertex
-seat-is n colour k w v h m i T T′ ew ev eh em ei et = et ∙ rw (ei, em, eh, ev, ew)
+storeVertex-is n colour k w v h m i T T′ ew ev eh em ei et = et ∙ rw (ei, em, eh, ev, ew)
 
 -- ---- one pass after another
 
-pub sized-is : (n colour : ℕ) (T T′ T″ : Tables) → T′ ≡ upward initSize n T → T″ ≡ upward (addSize colour) (n - 2) T′ →
+pub sizesComputed-is : (n colour : ℕ) (T T′ T″ : Tables) → T′ ≡ upward initSize n T → T″ ≡ upward (addSize colour) (n - 2) T′ →
     T″ ≡ sizesComputed n colour T
 unfolding sizesComputed
-sized-is n colour T T′ T″ e f = rw (f, e)
+sizesComputed-is n colour T T′ T″ e f = rw (f, e)
 
-pub begin-is : (root z : ℕ) (T T′ : Tables) → z ≡ T .mark (2 * root) → T′ ≡ setHead root z T → T′ ≡ initRoot root T
+pub initRoot-is : (root z : ℕ) (T T′ : Tables) → z ≡ T .mark (2 * root) → T′ ≡ setHead root z T → T′ ≡ initRoot root T
 unfolding initRoot
-begin-is root z T T′ ez e = rw (e, ez)
+initRoot-is root z T T′ ez e = rw (e, ez)
 
-pub placed-is : (n colour root : ℕ) (T T′ T″ : Tables) → T′ ≡ initRoot root T → T″ ≡ downward (allocateRange colour) (n - 2) T′ →
+pub positionsComputed-is : (n colour root : ℕ) (T T′ T″ : Tables) → T′ ≡ initRoot root T → T″ ≡ downward (allocateRange colour) (n - 2) T′ →
     T″ ≡ positionsComputed n colour root T
 unfolding positionsComputed
-placed-is n colour root T T′ T″ e f = rw (f, e)
+positionsComputed-is n colour root T T′ T″ e f = rw (f, e)
 
 -- each pass leaves what the next one asks for
 module _ {n words words′ : ℕ} (T T′ : Tables) where
   passes : (F : Tables) → T′ ≡ F → Odd T F → words′ ≡ words → PassPre n words T → PassPre n words′ T′
-  passes F e o l P = rw e (passable-odd o l P)
+  passes F e o l P = rw e (pass-pre-odd o l P)
 
   pub ones-pass : T′ ≡ upward initSize n T → words′ ≡ words → PassPre n words T → PassPre n words′ T′
   ones-pass e = passes _ e (odd-upward initSize odd-one n T)
 
   pub sizes-pass : (colour : ℕ) → T′ ≡ sizesComputed n colour T → words′ ≡ words → PassPre n words T → PassPre n words′ T′
-  sizes-pass colour e = passes _ e (odd-sized n colour T)
+  sizes-pass colour e = passes _ e (odd-sizes n colour T)
 
   pub root-passes : (root z : ℕ) → z ≡ T .mark (2 * root) → T′ ≡ setHead root z T → words′ ≡ words → PassPre n words T →
       PassPre n words′ T′
-  root-passes root z ez e = passes _ (begin-is root z T T′ ez e) (odd-begin root T)
+  root-passes root z ez e = passes _ (initRoot-is root z T T′ ez e) (odd-root root T)
 
   pub positions-pass : (colour root : ℕ) → T′ ≡ positionsComputed n colour root T → words′ ≡ words → PassPre n words T →
       PassPre n words′ T′
-  positions-pass colour root e = passes _ e (odd-placed n colour root T)
+  positions-pass colour root e = passes _ e (odd-positions n colour root T)
 
   pub ranges-pass : (colour : ℕ) → T′ ≡ upward (storeRange colour) (2 * n - 4) T → words′ ≡ words → PassPre n words T →
       PassPre n words′ T′
@@ -272,14 +272,14 @@ module _ {n words words′ : ℕ} (T T′ : Tables) where
       PassPre n words′ T′
   preorder-passes colour root e = passes _ e (odd-built n colour root T)
 
-pub built-is : (n colour root : ℕ) (T T₁ T₂ T₃ T₄ : Tables) → T₁ ≡ sizesComputed n colour T → T₂ ≡ positionsComputed n colour root T₁
+pub preorderBuilt-is : (n colour root : ℕ) (T T₁ T₂ T₃ T₄ : Tables) → T₁ ≡ sizesComputed n colour T → T₂ ≡ positionsComputed n colour root T₁
     → T₃ ≡ upward (storeRange colour) (2 * n - 4) T₂ →
     T₄ ≡ upward (storeVertex n colour) (n - 2) T₃ → T₄ ≡ preorderBuilt n colour root T
 unfolding preorderBuilt
-built-is n colour root T T₁ T₂ T₃ T₄ e₁ e₂ e₃ e₄ = rw (e₄, e₃, e₂, e₁)
+preorderBuilt-is n colour root T T₁ T₂ T₃ T₄ e₁ e₂ e₃ e₄ = rw (e₄, e₃, e₂, e₁)
 
 -- scratch as it is before both colours
 pub record PreorderPre (n : ℕ) (ts : List ℕ) (s : List ℤ) : Type 0 where
-  pub passable : PassPre n (length s) (tablesOf s)
+  pub pass-pre : PassPre n (length s) (tablesOf s)
   pub first : org ts 0 < n
   pub last : org ts 2 < n

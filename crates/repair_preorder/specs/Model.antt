@@ -60,7 +60,7 @@ unfolding withRange setOp
 storeRange colour zero S = S
 storeRange colour (suc j) S = let t = suc j in setOp (3 * t) (withRange colour (S .op (3 * t)) S) S
 
--- ---- the row: `count` for colour 0, the even marks for colour 1
+-- ---- the preorder: `count` for colour 0, the even marks for colour 1
 
 unfoldable pub clampIndex : ℕ → ℕ → ℕ
 clampIndex n i = cond (ltb i n) i 0

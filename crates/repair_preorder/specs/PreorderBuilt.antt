@@ -1,4 +1,4 @@
--- What the passes of a colour make of the tables: the sizes, places and rows that subtrees have. Assumes nothing.
+-- What the passes of a colour make of the tables: the sizes, places and preorders that subtrees have. Assumes nothing.
 use Prim.Native.Nat.{ℕ, zero, suc, _+_, _-_, _*_, _%_, _≤_, _<_}
 use mathlib.Core.Path.{_≡_, refl, sym, ap, fun-ext, _∙_}
 use mathlib.Core.Logic.{_≢_}
@@ -11,8 +11,8 @@ use borrow.Author.Tests.{eq-eqb, ne-eqb}
 use Rattle.repair_model.specs.PackedWords.{pack, field0, field3}
 use Rattle.repair_preorder.specs.Model.{upward, downward, parent, initSize, addSize, initRoot, allocateRange, withRange, storeRange, storeEntry}
 use Rattle.repair_preorder.specs.Model.{storeVertex, sizesComputed, positionsComputed, preorderBuilt}
-use Rattle.repair_preorder.specs.LoopInvariants.{Odd, odd-then, odd-upward, odd-one, odd-add, odd-begin, odd-takes, odd-range, odd-seat, odd-sized}
-use Rattle.repair_preorder.specs.LoopInvariants.{odd-placed, ranged-not, within-yes}
+use Rattle.repair_preorder.specs.LoopInvariants.{Odd, odd-then, odd-upward, odd-one, odd-add, odd-root, odd-allocate, odd-range, odd-store, odd-sizes}
+use Rattle.repair_preorder.specs.LoopInvariants.{odd-positions, withRange-not, clampIndex-in}
 
 -- ---- what every step keeps
 
@@ -76,9 +76,9 @@ module _ (m colour : ℕ) (who up : ℕ → ℕ) where
 
   -- ---- places
 
-  takes-mark : (k : ℕ) (S : Tables) → allocateRange colour k S .mark ≡ S .mark
+  allocateRange-mark : (k : ℕ) (S : Tables) → allocateRange colour k S .mark ≡ S .mark
   unfolding allocateRange setHead
-  takes-mark k S = refl
+  allocateRange-mark k S = refl
 
   place-step : (k : ℕ) (S : Tables) (z c : ℕ → ℕ) → k < m → Names m colour who up S → S .mark (2 * who k) ≡ z (who k) → S .head ≡ c →
       allocateRange colour k S .head ≡ allocate who up z k c
@@ -91,14 +91,14 @@ module _ (m colour : ℕ) (who up : ℕ → ℕ) where
   unfolding downward allocateAll
   places-are zero S z c l N e q = q
   places-are (suc k) S z c l N e q =
-      places-are k (allocateRange colour k S) z (allocate who up z k c) (omega arith) (names-odd (odd-takes colour k S) N)
-      (λ j h. ap (λ (f : ℕ → ℕ). f (2 * who j)) (takes-mark k S) ∙ e j h) (place-step k S z c (omega arith) N (e k (omega arith)) q)
+      places-are k (allocateRange colour k S) z (allocate who up z k c) (omega arith) (names-odd (odd-allocate colour k S) N)
+      (λ j h. ap (λ (f : ℕ → ℕ). f (2 * who j)) (allocateRange-mark k S) ∙ e j h) (place-step k S z c (omega arith) N (e k (omega arith)) q)
 
   -- ---- the words
 
-  ranged-same : (w : ℕ) (S S′ : Tables) → S′ .head ≡ S .head → S′ .mark ≡ S .mark → withRange colour w S′ ≡ withRange colour w S
+  withRange-same : (w : ℕ) (S S′ : Tables) → S′ .head ≡ S .head → S′ .mark ≡ S .mark → withRange colour w S′ ≡ withRange colour w S
   unfolding withRange
-  ranged-same w S S′ h e = rw (h, e)
+  withRange-same w S S′ h e = rw (h, e)
 
   range-head : (t : ℕ) (S : Tables) → storeRange colour t S .head ≡ S .head
   unfolding storeRange setOp
@@ -139,13 +139,13 @@ module _ (m colour : ℕ) (who up : ℕ → ℕ) where
             rw e
             (upd-at (3 * suc k) (3 * suc k) (withRange colour (S′ .op (3 * suc k)) S′) (S′ .op) refl
             ∙ ap (λ (w : ℕ). withRange colour w S′) (ranges-out (suc k) (suc k) S (omega arith))
-            ∙ ranged-same (S .op (3 * suc k)) S S′ (up-keeps (λ (T : Tables). T .head) (storeRange colour) range-head (suc k) S)
+            ∙ withRange-same (S .op (3 * suc k)) S S′ (up-keeps (λ (T : Tables). T .head) (storeRange colour) range-head (suc k) S)
             (up-keeps (λ (T : Tables). T .mark) (storeRange colour) range-mark (suc k) S))
         | no e ↦
             upd-other (3 * suc k) (3 * t) (withRange colour (S′ .op (3 * suc k)) S′) (S′ .op) (omega arith) ∙ ranges-are (suc k) t S p (omega arith)
       ]
 
--- ---- rows
+-- ---- preorders
 
 even-set : (i x : ℕ) (f : ℕ → ℕ) (j : ℕ) → upd (2 * i) x f (2 * j) ≡ upd i x (λ k. f (2 * k)) j
 even-set i x f j =
@@ -156,49 +156,49 @@ even-set i x f j =
 
 module _ (n : ℕ) where
   module _ (colour : ℕ) where
-    seat-head : (k : ℕ) (S : Tables) → storeVertex n colour k S .head ≡ S .head
+    storeVertex-head : (k : ℕ) (S : Tables) → storeVertex n colour k S .head ≡ S .head
     unfolding storeVertex storeEntry setCount setMark
-    seat-head k S = elim (ℕ-discrete colour 0) [ yes e ↦ rw (eq-eqb colour 0 e) | no e ↦ rw (ne-eqb colour 0 e) ]
+    storeVertex-head k S = elim (ℕ-discrete colour 0) [ yes e ↦ rw (eq-eqb colour 0 e) | no e ↦ rw (ne-eqb colour 0 e) ]
 
-    seat-op : (k : ℕ) (S : Tables) → storeVertex n colour k S .op ≡ S .op
+    storeVertex-op : (k : ℕ) (S : Tables) → storeVertex n colour k S .op ≡ S .op
     unfolding storeVertex storeEntry setCount setMark
-    seat-op k S = elim (ℕ-discrete colour 0) [ yes e ↦ rw (eq-eqb colour 0 e) | no e ↦ rw (ne-eqb colour 0 e) ]
+    storeVertex-op k S = elim (ℕ-discrete colour 0) [ yes e ↦ rw (eq-eqb colour 0 e) | no e ↦ rw (ne-eqb colour 0 e) ]
 
-  seat-count : (k : ℕ) (S : Tables) → storeVertex n 1 k S .count ≡ S .count
+  storeVertex-count : (k : ℕ) (S : Tables) → storeVertex n 1 k S .count ≡ S .count
   unfolding storeVertex storeEntry setMark
-  seat-count k S = refl
+  storeVertex-count k S = refl
 
 module _ (n m : ℕ) (who up c : ℕ → ℕ) (fits : (k : ℕ) → k < m → c (who k) - 1 < n) where
   module _ (colour : ℕ) where
     -- the k-th vertex comes to its place
-    seat-put : (k : ℕ) (S : Tables) → k < m → Names m colour who up S → S .head ≡ c →
+    storeVertex-put : (k : ℕ) (S : Tables) → k < m → Names m colour who up S → S .head ≡ c →
         storeVertex n colour k S ≡ storeEntry colour (c (who k) - 1) (who k) S
     unfolding storeVertex
-    seat-put k S h N q = rw (N .child k h, q, sym (within-yes n (c (who k) - 1) (fits k h)))
+    storeVertex-put k S h N q = rw (N .child k h, q, sym (clampIndex-in n (c (who k) - 1) (fits k h)))
 
-    seats-put : (k : ℕ) (S : Tables) → k < m → Names m colour who up S → S .head ≡ c →
+    storeVertices-put : (k : ℕ) (S : Tables) → k < m → Names m colour who up S → S .head ≡ c →
         upward (storeVertex n colour) (suc k) S ≡ storeEntry colour (c (who k) - 1) (who k) (upward (storeVertex n colour) k S)
     unfolding upward
-    seats-put k S h N q =
-        seat-put k (upward (storeVertex n colour) k S) h (names-odd (odd-upward (storeVertex n colour) (odd-seat n colour) k S) N)
-        (up-keeps (λ (T : Tables). T .head) (storeVertex n colour) (seat-head n colour) k S ∙ q)
+    storeVertices-put k S h N q =
+        storeVertex-put k (upward (storeVertex n colour) k S) h (names-odd (odd-upward (storeVertex n colour) (odd-store n colour) k S) N)
+        (up-keeps (λ (T : Tables). T .head) (storeVertex n colour) (storeVertex-head n colour) k S ∙ q)
 
-  rows-0 : (k : ℕ) (S : Tables) → k ≤ m → Names m 0 who up S → S .head ≡ c →
+  orders-0 : (k : ℕ) (S : Tables) → k ≤ m → Names m 0 who up S → S .head ≡ c →
       upward (storeVertex n 0) k S .count ≡ preorder who up c k (S .count)
   unfolding upward preorder storeEntry setCount
-  rows-0 zero S l N q = refl
-  rows-0 (suc k) S l N q =
-      ap (λ (T : Tables). T .count) (seats-put 0 k S (omega arith) N q) ∙ ap (upd (c (who k) - 1) (who k)) (rows-0 k S (omega arith) N q)
+  orders-0 zero S l N q = refl
+  orders-0 (suc k) S l N q =
+      ap (λ (T : Tables). T .count) (storeVertices-put 0 k S (omega arith) N q) ∙ ap (upd (c (who k) - 1) (who k)) (orders-0 k S (omega arith) N q)
 
-  rows-1 : (k : ℕ) (S : Tables) → k ≤ m → Names m 1 who up S → S .head ≡ c → (j : ℕ) → upward (storeVertex n 1) k S .mark (2 * j)
+  orders-1 : (k : ℕ) (S : Tables) → k ≤ m → Names m 1 who up S → S .head ≡ c → (j : ℕ) → upward (storeVertex n 1) k S .mark (2 * j)
       ≡ preorder who up c k (λ i. S .mark (2 * i)) j
   unfolding upward preorder storeEntry setMark
-  rows-1 zero S l N q j = refl
-  rows-1 (suc k) S l N q j =
+  orders-1 zero S l N q j = refl
+  orders-1 (suc k) S l N q j =
       let S′ = upward (storeVertex n 1) k S in
       let i = c (who k) - 1 in
-      ap (λ (T : Tables). T .mark (2 * j)) (seats-put 1 k S (omega arith) N q) ∙ even-set i (who k) (S′ .mark) j
-      ∙ ap (λ (f : ℕ → ℕ). upd i (who k) f j) (fun-ext (rows-1 k S (omega arith) N q))
+      ap (λ (T : Tables). T .mark (2 * j)) (storeVertices-put 1 k S (omega arith) N q) ∙ even-set i (who k) (S′ .mark) j
+      ∙ ap (λ (f : ℕ → ℕ). upd i (who k) f j) (fun-ext (orders-1 k S (omega arith) N q))
 
 -- ---- all passes of a colour
 
@@ -249,11 +249,11 @@ module _ {n colour root : ℕ} {who up : ℕ → ℕ} {S : Tables} (G : Grows n 
       let e : upd root (S₁ .mark (2 * root)) (S₁ .head) ≡ upd root (z root) (S .head) =
       rw (sized-mark root (G .root-low), sized-keeps (λ (T : Tables). T .head) (λ i x T. refl)) in
       places-are (n - 2) colour who up (n - 2) (initRoot root S₁) z (upd root (z root) (S .head)) (omega arith)
-      (names-odd (odd-then (odd-sized n colour S) (odd-begin root S₁)) (G .names)) (λ j h. sized-mark (who j) (G .who-low j h)) e
+      (names-odd (odd-then (odd-sizes n colour S) (odd-root root S₁)) (G .names)) (λ j h. sized-mark (who j) (G .who-low j h)) e
 
   built-op : preorderBuilt n colour root S .op ≡ S₃ .op
   unfolding preorderBuilt
-  built-op = up-keeps (λ (T : Tables). T .op) (storeVertex n colour) (seat-op n colour) (n - 2) S₃
+  built-op = up-keeps (λ (T : Tables). T .op) (storeVertex n colour) (storeVertex-op n colour) (n - 2) S₃
 
   same-op : S₂ .op ≡ S .op
   unfolding setHead setMark
@@ -273,7 +273,7 @@ module _ {n colour root : ℕ} {who up : ℕ → ℕ} {S : Tables} (G : Grows n 
   -- a word that leads across a side of another colour stays
   pub built-kept : (t w : ℕ) → 0 < t → t < 2 * n - 4 → S .op (3 * t) ≡ w → field3 w ≢ colour + 1 → preorderBuilt n colour root S .op (3 * t)
       ≡ w
-  built-kept t w p l e h = built-word t p l ∙ ap (λ (x : ℕ). withRange colour x S₂) e ∙ sym (ranged-not colour w S₂ (field3 w) refl h)
+  built-kept t w p l e h = built-word t p l ∙ ap (λ (x : ℕ). withRange colour x S₂) e ∙ sym (withRange-not colour w S₂ (field3 w) refl h)
 
   -- a word of this colour gets the place and the size of the subtree
   pub built-moved : (t w v : ℕ) → 0 < t → t < 2 * n - 4 → S .op (3 * t) ≡ w → field3 w ≡ colour + 1 → parent colour w ≡ v → v < n →
@@ -286,7 +286,7 @@ module _ {n colour root : ℕ} {who up : ℕ → ℕ} {S : Tables} (G : Grows n 
   ranges-names : Names (n - 2) colour who up S₃
   ranges-names =
       names-odd
-      (odd-then (odd-then (odd-sized n colour S) (odd-placed n colour root S₁)) (odd-upward (storeRange colour) (odd-range colour) (2 * n - 4) S₂))
+      (odd-then (odd-then (odd-sizes n colour S) (odd-positions n colour root S₁)) (odd-upward (storeRange colour) (odd-range colour) (2 * n - 4) S₂))
       (G .names)
 
   ranges-head : S₃ .head ≡ places (n - 2) root who up (S .head)
@@ -299,19 +299,19 @@ module _ {n colour root : ℕ} {who up : ℕ → ℕ} {S : Tables} (G : Grows n 
       ∙ placed-keeps (λ (T : Tables). T .count) (λ i x T. refl) ∙ sized-keeps (λ (T : Tables). T .count) (λ i x T. refl)
 
 module _ {n root : ℕ} {who up : ℕ → ℕ} {S : Tables} where
-  pub built-row0 : (G : Grows n 0 root who up S) → preorderBuilt n 0 root S .count
+  pub built-order0 : (G : Grows n 0 root who up S) → preorderBuilt n 0 root S .count
       ≡ preorder who up (places (n - 2) root who up (S .head)) (n - 2) (S .count)
   unfolding preorderBuilt
-  built-row0 G =
+  built-order0 G =
       let c = places (n - 2) root who up (S .head) in
-      rows-0 n (n - 2) who up c (G .fits) (n - 2) (S₃ G) (omega arith) (ranges-names G) (ranges-head G) ∙ ap (preorder who up c (n - 2)) (ranges-count G)
+      orders-0 n (n - 2) who up c (G .fits) (n - 2) (S₃ G) (omega arith) (ranges-names G) (ranges-head G) ∙ ap (preorder who up c (n - 2)) (ranges-count G)
 
-  pub built-row1 : (G : Grows n 1 root who up S) →
+  pub built-order1 : (G : Grows n 1 root who up S) →
       (λ j. preorderBuilt n 1 root S .mark (2 * j)) ≡ preorder who up (places (n - 2) root who up (S .head)) (n - 2) (λ j. S₃ G .mark (2 * j))
   unfolding preorderBuilt
-  built-row1 G =
-      fun-ext (rows-1 n (n - 2) who up (places (n - 2) root who up (S .head)) (G .fits) (n - 2) (S₃ G) (omega arith) (ranges-names G) (ranges-head G))
+  built-order1 G =
+      fun-ext (orders-1 n (n - 2) who up (places (n - 2) root who up (S .head)) (G .fits) (n - 2) (S₃ G) (omega arith) (ranges-names G) (ranges-head G))
 
   pub built-count : (G : Grows n 1 root who up S) → preorderBuilt n 1 root S .count ≡ S .count
   unfolding preorderBuilt
-  built-count G = up-keeps (λ (T : Tables). T .count) (storeVertex n 1) (seat-count n) (n - 2) (S₃ G) ∙ ranges-count G
+  built-count G = up-keeps (λ (T : Tables). T .count) (storeVertex n 1) (storeVertex-count n) (n - 2) (S₃ G) ∙ ranges-count G

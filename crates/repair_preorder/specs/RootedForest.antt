@@ -18,7 +18,7 @@ use Rattle.repair_model.specs.PackedWords.{removedWord, Packed, WalksPacked}
 use Rattle.repair_model.specs.PreorderWords.{moveWord, Preordered}
 use Rattle.repair_preorder.specs.Model.{parent, preorderBuilt}
 use Rattle.repair_preorder.specs.LoopInvariants.{odd-built}
-use Rattle.repair_preorder.specs.PreorderBuilt.{Names, names-odd, Grows, built-rest, built-kept, built-moved, built-row0, built-row1, built-count}
+use Rattle.repair_preorder.specs.PreorderBuilt.{Names, names-odd, Grows, built-rest, built-kept, built-moved, built-order0, built-order1, built-count}
 
 -- the parents of the k-th vertex that left
 abbrev pub up0 : List ℕ → Tables → ℕ → ℕ
@@ -48,10 +48,10 @@ unfolding field0
 part-same x h = omega arith
 
 -- only the ranges of vertices with a parent count
-subtree-same : {n m : ℕ} {removedAt up row from size from′ size′ : ℕ → ℕ} →
+subtree-same : {n m : ℕ} {removedAt up order from size from′ size′ : ℕ → ℕ} →
     ((k : ℕ) → k < m → from′ (removedAt k) ≡ from (removedAt k)) →
-    ((k : ℕ) → k < m → size′ (removedAt k) ≡ size (removedAt k)) → Subtree n m removedAt up row from size →
-    Subtree n m removedAt up row from′ size′
+    ((k : ℕ) → k < m → size′ (removedAt k) ≡ size (removedAt k)) → Subtree n m removedAt up order from size →
+    Subtree n m removedAt up order from′ size′
 subtree-same f z F =
     record {
       sub = F .sub;
@@ -236,10 +236,10 @@ module _ {n : ℕ} {ts : List ℕ} {T : Tables} (some : 3 ≤ n) (R : RootedFore
           from1 = from1;
           size1 = size1;
           subtree0 =
-              rw (ap (λ (X : Tables). X .count) e″ ∙ built-count G1 ∙ ap (λ (X : Tables). X .count) e′ ∙ built-row0 G0)
+              rw (ap (λ (X : Tables). X .count) e″ ∙ built-count G1 ∙ ap (λ (X : Tables). X .count) e′ ∙ built-order0 G0)
               (families (org ts 0) (up0 ts T) (R .not0) (R .later0) S (S .count));
           subtree1 =
-              rw (ap {B = ℕ → ℕ} (λ (X : Tables) (j : ℕ). X .mark (2 * j)) e″ ∙ built-row1 G1)
+              rw (ap {B = ℕ → ℕ} (λ (X : Tables) (j : ℕ). X .mark (2 * j)) e″ ∙ built-order1 G1)
               (families (org ts 2) (up1 ts T) (R .not1) (R .later1) S′ _);
           moves = move;
           corners = λ t p l. rest (3 * t + 1) (omega arith) ∙ L .corners t p l;

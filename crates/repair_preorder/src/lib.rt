@@ -164,7 +164,7 @@ fn store_ranges(n: usize, scratch: &mut [i64], colour: usize)
     }
 }
 
-// a place of the row, which has n
+// a place of the preorder, which has n
 fn clamp_index(n: usize, i: usize) -> usize
     requires { ⌜ 0 < n ⌝ }
     ensures is { λ r. ⌜ r ≡ clampIndex n i ⌝ }
@@ -217,7 +217,7 @@ fn compute_sizes(n: usize, scratch: &mut [i64], colour: usize)
     accumulate_sizes(n, scratch, colour);
 }
 
-// their places: the root has all of the row
+// their ranges: the root has all of the preorder
 fn compute_positions(n: usize, scratch: &mut [i64], colour: usize, root: usize)
     requires { ⌜ PassPre n (length (now scratch)) (tablesOf (now scratch)) × (root < n) ⌝ }
     ensures { λ r. ⌜ tablesOf (now (scratch .exit)) ≡ positionsComputed n colour root (tablesOf (now (scratch .entry))) ⌝ }
@@ -227,7 +227,7 @@ fn compute_positions(n: usize, scratch: &mut [i64], colour: usize, root: usize)
     allocate_ranges(n, scratch, colour);
 }
 
-// the row of a colour
+// the preorder of a colour
 fn build_preorder(n: usize, scratch: &mut [i64], colour: usize, root: usize)
     requires { ⌜ PassPre n (length (now scratch)) (tablesOf (now scratch)) × (colour < 2) × (root < n) ⌝ }
     ensures { λ r. ⌜ tablesOf (now (scratch .exit)) ≡ preorderBuilt n colour root (tablesOf (now (scratch .entry))) ⌝ }
@@ -238,7 +238,7 @@ fn build_preorder(n: usize, scratch: &mut [i64], colour: usize, root: usize)
     store_vertices(n, scratch, colour);
 }
 
-// The rows of both colours. Where the words were laid out over the tables T, and the paths in T lead to v0 and v1, their subtrees stand in the rows.
+// The preorders of both colours. Where the words were laid out over the tables T, and the paths in T lead to v0 and v1, their subtrees are ranges of these.
 pub fn build_preorders(n: usize, triangles: &[u16], scratch: &mut [i64])
     requires { ⌜ PreorderPre n (now triangles) (now scratch) ⌝ }
     ensures { λ r. ⌜ ((T : Tables) → Packed n (now (triangles .entry)) T (tablesOf (now (scratch .entry))) → WalksPacked n T (tablesOf (now (scratch .entry))) → RootedForest n (now (triangles .entry)) T →

@@ -12,7 +12,7 @@ use Rattle.laws.specs.Lists.{_∈_}
 use Rattle.scratch_tables.specs.Tables.{Tables}
 use Rattle.repair_area.specs.Areas.{badOf, raiseOf}
 use Rattle.repair_model.specs.PackedWords.{field0, field1, field2}
-use Rattle.repair_model.specs.Search.{badAt, raiseAt, nextOn, lineOn, lineOn-on, Found, Next}
+use Rattle.repair_model.specs.Search.{badAt, raiseAt, nextOn, walkOn, walkOn-on, Found, Next}
 
 -- ---- the corners
 
@@ -94,28 +94,28 @@ lower-new p full i low h l = record { least = λ _. h; most = omega arith; clear
 pub record Lowest (S : Tables) (p : ℕ → Bool) (k full t r : ℕ) : Type 0 where
   pub least : full ≤ t → full ≤ r
   pub most : r ≤ t
-  pub clear : (c : ℕ) → c < 3 → (g : ℕ) → g ∈ lineOn S c k t → full ≤ g → g < r → p g ≡ false
+  pub clear : (c : ℕ) → c < 3 → (g : ℕ) → g ∈ walkOn S c k t → full ≤ g → g < r → p g ≡ false
 
 -- none is left of a walk that is home; g is on a walk from i on if it is i or on the walk from the next one on
-line-home : (S : Tables) (c k : ℕ) → lineOn S c k 0 ≡ []
-unfolding lineOn
-line-home S c zero = refl
-line-home S c (suc k) = refl
+walkOn-home : (S : Tables) (c k : ℕ) → walkOn S c k 0 ≡ []
+unfolding walkOn
+walkOn-home S c zero = refl
+walkOn-home S c (suc k) = refl
 
-line-step : (S : Tables) (c k i g : ℕ) → g ∈ lineOn S c (suc k) i → (g ≡ i) ⊎ (g ∈ lineOn S c k (nextOn S c i))
-line-step S c k i g m =
+walkOn-step : (S : Tables) (c k i g : ℕ) → g ∈ walkOn S c (suc k) i → (g ≡ i) ⊎ (g ∈ walkOn S c k (nextOn S c i))
+walkOn-step S c k i g m =
     elim (ℕ-discrete i 0) [
-      | yes z ↦ absurd (List·Memᴰ·not-nil (rw (z, line-home S c (suc k)) at m))
-      | no z ↦ List·Memᴰ·cases-cons (rw (lineOn-on S c k i z) at m)
+      | yes z ↦ absurd (List·Memᴰ·not-nil (rw (z, walkOn-home S c (suc k)) at m))
+      | no z ↦ List·Memᴰ·cases-cons (rw (walkOn-on S c k i z) at m)
     ]
 
 -- the same of one walk, but for those on the rest of it, which is from i on
 pub record Walking (S : Tables) (p : ℕ → Bool) (c steps full t k i r : ℕ) : Type 0 where
   pub fits : i < 65536
-  pub clear : (g : ℕ) → g ∈ lineOn S c steps t → full ≤ g → g < r → (g ∈ lineOn S c k i) ⊎ (p g ≡ false)
+  pub clear : (g : ℕ) → g ∈ walkOn S c steps t → full ≤ g → g < r → (g ∈ walkOn S c k i) ⊎ (p g ≡ false)
 
 module _ (S : Tables) (p : ℕ → Bool) (c steps full t k i r : ℕ) (W : Walking S p c steps full t k i r) where
-  walk-ends : lineOn S c k i ≡ [] → (g : ℕ) → g ∈ lineOn S c steps t → full ≤ g → g < r → p g ≡ false
+  walk-ends : walkOn S c k i ≡ [] → (g : ℕ) → g ∈ walkOn S c steps t → full ≤ g → g < r → p g ≡ false
   walk-ends e g m l h = elim (W .clear g m l h) [ inl q ↦ absurd (List·Memᴰ·not-nil (rw e at q)) | inr q ↦ q ]
 
   -- i has been looked at
@@ -128,7 +128,7 @@ module _ (S : Tables) (p : ℕ → Bool) (c steps full t k i r : ℕ) (W : Walki
         clear = λ g m l n.
             elim (W .clear g m l (omega (arith, most))) [
               | inr b ↦ inr b
-              | inl b ↦ elim (line-step S c (k - 1) i g (rw q at b)) [ inl a ↦ inr (rw a (here (rw a at l) (rw a at n))) | inr a ↦ inl (rw e a) ]
+              | inl b ↦ elim (walkOn-step S c (k - 1) i g (rw q at b)) [ inl a ↦ inr (rw a (here (rw a at l) (rw a at n))) | inr a ↦ inl (rw e a) ]
             ];
       }
 
@@ -151,7 +151,7 @@ walks-begin S p steps full t h =
     }
 
 module _ (S : Tables) (p : ℕ → Bool) (steps full t k a b d r : ℕ) (W : Walks S p steps full t k a b d r) where
-  walks-end : lineOn S 0 k a ≡ [] → lineOn S 1 k b ≡ [] → lineOn S 2 k d ≡ [] → Lowest S p steps full t r
+  walks-end : walkOn S 0 k a ≡ [] → walkOn S 1 k b ≡ [] → walkOn S 2 k d ≡ [] → Lowest S p steps full t r
   walks-end ea eb ed =
       record {
         least = W .least;
@@ -167,7 +167,7 @@ module _ (S : Tables) (p : ℕ → Bool) (steps full t k a b d r : ℕ) (W : Wal
       }
 
   pub walks-stop : k ≡ 0 → Lowest S p steps full t r
-  unfolding lineOn
+  unfolding walkOn
   walks-stop e = walks-end (rw e) (rw e) (rw e)
 
   pub walks-home : a + b + d ≡ 0 → Lowest S p steps full t r
@@ -175,7 +175,7 @@ module _ (S : Tables) (p : ℕ → Bool) (steps full t k a b d r : ℕ) (W : Wal
       let ea : a ≡ 0 = omega arith in
       let eb : b ≡ 0 = omega arith in
       let ed : d ≡ 0 = omega arith in
-      walks-end (rw ea (line-home S 0 k)) (rw eb (line-home S 1 k)) (rw ed (line-home S 2 k))
+      walks-end (rw ea (walkOn-home S 0 k)) (rw eb (walkOn-home S 1 k)) (rw ed (walkOn-home S 2 k))
 
   -- a, b and d have been looked at, one after another, and all three walks go on
   pub walks-next : (r0 r1 r2 a′ b′ d′ : ℕ) → 0 < k → Lower p full a r r0 → Lower p full b r0 r1 → Lower p full d r1 r2 →

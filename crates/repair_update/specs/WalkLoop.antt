@@ -21,11 +21,11 @@ use Rattle.repair_model.specs.PackedWords.{field0, field1, field2, field3}
 use Rattle.repair_model.specs.Raise.{Moved}
 use Rattle.repair_model.specs.Update.{timesMoved, moved, timesMoved-home, timesMoved-on, moved-yes, moved-no}
 use Rattle.repair_update.specs.Increase.{none, More, more-none, more-then, more-same, single, more-set, Small, small-later, small-set}
-use Rattle.repair_update.specs.RangeLoop.{along, manyAdded, Rowable, count-row, mark-row, mark-cell}
+use Rattle.repair_update.specs.RangeLoop.{along, manyAdded, RangePre, count-order, mark-order, mark-cell}
 
 -- ---- what is asked and given
 
--- The words of the walks: each leads to a triangle, and moves a subtree that stands in its row.
+-- The words of the walks: each leads to a triangle, and moves a subtree that stands in its preorder.
 pub record Words (n : ℕ) (S : Tables) : Type 0 where
   pub on : (t : ℕ) → 0 < t → t < 2 * n - 4 → field0 (S .op (3 * t)) < 2 * n - 4
   pub left : (t : ℕ) → 0 < t → t < 2 * n - 4 → field3 (S .op (3 * t)) ≡ 1 → (field1 (S .op (3 * t)) + field2 (S .op (3 * t)) ≤ n)
@@ -81,20 +81,20 @@ module _ (S : Tables) (w : ℕ) where
   share-none d e (suc zero) i h = sym (moved-no 1 (S .count) w i d)
   share-none d e (suc (suc c)) i h = refl
 
--- where in scratch the row of a flag begins: `count` for 1, the even marks for 2
-unfoldable pub rowAt : ℕ → ℕ → ℕ
-rowAt words f = cond (eqb f 1) (countStart words) (markStart words)
+-- where in scratch the preorder of a flag begins: `count` for 1, the even marks for 2
+unfoldable pub preorderAt : ℕ → ℕ → ℕ
+preorderAt words f = cond (eqb f 1) (countStart words) (markStart words)
 
-pub row-left : (words f : ℕ) → f ≡ 1 → countStart words ≡ rowAt words f
-unfolding rowAt
-row-left words f e = rw (eq-eqb f 1 e)
+pub preorder-left : (words f : ℕ) → f ≡ 1 → countStart words ≡ preorderAt words f
+unfolding preorderAt
+preorder-left words f e = rw (eq-eqb f 1 e)
 
-pub row-right : (words f : ℕ) → f ≢ 1 → markStart words ≡ rowAt words f
-unfolding rowAt
-row-right words f d = rw (ne-eqb f 1 d)
+pub preorder-right : (words f : ℕ) → f ≢ 1 → markStart words ≡ preorderAt words f
+unfolding preorderAt
+preorder-right words f d = rw (ne-eqb f 1 d)
 
 -- what is asked of a word that is followed, with `added` numbers added so far
-pub record Movable (s bs : List ℤ) (w : ℕ) (x : ℤ) : Type 0 where
+pub record SubtreePre (s bs : List ℤ) (w : ℕ) (x : ℤ) : Type 0 where
   pub n : ℕ
   pub most : n ≤ 4096
   pub room : 10 * n ≤ length s
@@ -107,13 +107,13 @@ pub record Movable (s bs : List ℤ) (w : ℕ) (x : ℤ) : Type 0 where
   pub few : added + 4096 ≤ manyAdded
 
 -- and what it gives
-pub record Followed (s : List ℤ) (w : ℕ) (x : ℤ) (bs bs′ : List ℤ) : Type 0 where
+pub record SubtreeAdded (s : List ℤ) (w : ℕ) (x : ℤ) (bs bs′ : List ℤ) : Type 0 where
   pub more : More (share (tablesOf s) w) x bs bs′
   pub small : (k : ℕ) → Small k bs → Small (k + 4096) bs′
 
-module _ (s bs : List ℤ) (w : ℕ) (x : ℤ) (M : Movable s bs w x) where
-  left-rowable : field3 w ≡ 1 → (a end : ℕ) → a ≡ countStart (length s) + field1 w → end ≡ a + field2 w → Rowable s bs a end 1 x
-  left-rowable e a end ea ee =
+module _ (s bs : List ℤ) (w : ℕ) (x : ℤ) (M : SubtreePre s bs w x) where
+  left-range : field3 w ≡ 1 → (a end : ℕ) → a ≡ countStart (length s) + field1 w → end ≡ a + field2 w → RangePre s bs a end 1 x
+  left-range e a end ea ee =
       let f = M .left e in
       record {
         ordered = omega (arith, ee);
@@ -132,8 +132,8 @@ module _ (s bs : List ℤ) (w : ℕ) (x : ℤ) (M : Movable s bs w x) where
         few = omega (arith, M .few, M .most, f .0, ee);
       }
 
-  right-rowable : field3 w ≡ 2 → (a end : ℕ) → a ≡ markStart (length s) + field1 w → end ≡ a + field2 w → Rowable s bs a end 0 x
-  right-rowable e a end ea ee =
+  right-range : field3 w ≡ 2 → (a end : ℕ) → a ≡ markStart (length s) + field1 w → end ≡ a + field2 w → RangePre s bs a end 0 x
+  right-range e a end ea ee =
       let f = M .right e in
       record {
         ordered = omega (arith, ee);
@@ -153,68 +153,68 @@ module _ (s bs : List ℤ) (w : ℕ) (x : ℤ) (M : Movable s bs w x) where
       }
 
   module _ (bs′ : List ℤ) (a end : ℕ) where
-    left-followed : field3 w ≡ 1 → a ≡ countStart (length s) + field1 w → end ≡ a + field2 w → More (along (wordAt s) a (end - a) 1) x bs bs′
+    left-added : field3 w ≡ 1 → a ≡ countStart (length s) + field1 w → end ≡ a + field2 w → More (along (wordAt s) a (end - a) 1) x bs bs′
         →
-        ((k : ℕ) → Small k bs → Small (k + (end - a)) bs′) → Followed s w x bs bs′
-    left-followed e ea ee more small =
+        ((k : ℕ) → Small k bs → Small (k + (end - a)) bs′) → SubtreeAdded s w x bs bs′
+    left-added e ea ee more small =
         let f = M .left e in
         let z : end - a ≡ field2 w = omega (arith, ee) in
         record {
           more = more-same
               (λ c i h.
               rw (z, ea)
-              (ap (λ (m : ℕ). cond (eqb c 1) m 0) (count-row s (field2 w) (field1 w) i (omega (arith, f .0, M .room)))
+              (ap (λ (m : ℕ). cond (eqb c 1) m 0) (count-order s (field2 w) (field1 w) i (omega (arith, f .0, M .room)))
               ∙ share-left (tablesOf s) w e c i h))
               more;
           small = λ k l. small-later (omega (arith, f .0, M .most, ee)) (small k l);
         }
 
-    right-followed : field3 w ≡ 2 → a ≡ markStart (length s) + field1 w → end ≡ a + field2 w → More (along (wordAt s) a (end - a) 0) x bs bs′
+    right-added : field3 w ≡ 2 → a ≡ markStart (length s) + field1 w → end ≡ a + field2 w → More (along (wordAt s) a (end - a) 0) x bs bs′
         →
-        ((k : ℕ) → Small k bs → Small (k + (end - a)) bs′) → Followed s w x bs bs′
-    right-followed e ea ee more small =
+        ((k : ℕ) → Small k bs → Small (k + (end - a)) bs′) → SubtreeAdded s w x bs bs′
+    right-added e ea ee more small =
         let f = M .right e in
         let z : end - a ≡ field2 w = omega (arith, ee) in
         record {
           more = more-same
               (λ c i h.
               rw (z, ea)
-              (ap (λ (m : ℕ). cond (eqb c 0) m 0) (mark-row s (field2 w) (field1 w) i (omega (arith, f .0, M .room)))
+              (ap (λ (m : ℕ). cond (eqb c 0) m 0) (mark-order s (field2 w) (field1 w) i (omega (arith, f .0, M .room)))
               ∙ share-right (tablesOf s) w e c i h))
               more;
           small = λ k l. small-later (omega (arith, f .0, M .most, ee)) (small k l);
         }
 
   -- the same for either flag f
-  module _ (f a end c : ℕ) (ef : f ≡ field3 w) (some : f ≢ 0) (few : f ≤ 2) (ea : a ≡ rowAt (length s) f + field1 w) (ee : end ≡ a + field2 w)
+  module _ (f a end c : ℕ) (ef : f ≡ field3 w) (some : f ≢ 0) (few : f ≤ 2) (ea : a ≡ preorderAt (length s) f + field1 w) (ee : end ≡ a + field2 w)
       (ec : c ≡ 2 - f) where
-    pub subtree-rowable : Rowable s bs a end c x
-    subtree-rowable =
+    pub subtree-range : RangePre s bs a end c x
+    subtree-range =
         elim (ℕ-discrete f 1) [
           | yes e ↦
               let z : c ≡ 1 = omega arith in
-              rw z (left-rowable (sym ef ∙ e) a end (omega (arith, ea, row-left (length s) f e)) ee)
+              rw z (left-range (sym ef ∙ e) a end (omega (arith, ea, preorder-left (length s) f e)) ee)
           | no e ↦
               let z : c ≡ 0 = omega arith in
               let g : f ≡ 2 = omega arith in
-              rw z (right-rowable (sym ef ∙ g) a end (omega (arith, ea, row-right (length s) f e)) ee)
+              rw z (right-range (sym ef ∙ g) a end (omega (arith, ea, preorder-right (length s) f e)) ee)
         ]
 
-    pub subtree-followed : (bs′ : List ℤ) → More (along (wordAt s) a (end - a) c) x bs bs′ →
-        ((k : ℕ) → Small k bs → Small (k + (end - a)) bs′) → Followed s w x bs bs′
-    subtree-followed bs′ more small =
+    pub subtree-added : (bs′ : List ℤ) → More (along (wordAt s) a (end - a) c) x bs bs′ →
+        ((k : ℕ) → Small k bs → Small (k + (end - a)) bs′) → SubtreeAdded s w x bs bs′
+    subtree-added bs′ more small =
         elim (ℕ-discrete f 1) [
           | yes e ↦
               let z : c ≡ 1 = omega arith in
-              left-followed bs′ a end (sym ef ∙ e) (omega (arith, ea, row-left (length s) f e)) ee (rw z at more) small
+              left-added bs′ a end (sym ef ∙ e) (omega (arith, ea, preorder-left (length s) f e)) ee (rw z at more) small
           | no e ↦
               let z : c ≡ 0 = omega arith in
               let g : f ≡ 2 = omega arith in
-              right-followed bs′ a end (sym ef ∙ g) (omega (arith, ea, row-right (length s) f e)) ee (rw z at more) small
+              right-added bs′ a end (sym ef ∙ g) (omega (arith, ea, preorder-right (length s) f e)) ee (rw z at more) small
         ]
 
-  pub none-followed : field3 w ≢ 1 → field3 w ≢ 2 → Followed s w x bs bs
-  none-followed d e =
+  pub none-added : field3 w ≢ 1 → field3 w ≢ 2 → SubtreeAdded s w x bs bs
+  none-added d e =
       record { more = more-same (λ c i h. share-none (tablesOf s) w d e c i h) (more-none x bs); small = λ k l. small-later (omega arith) l }
 
 -- ---- the walk
@@ -244,7 +244,7 @@ amount-on S k t zero i d = timesMoved-on 2 (λ j. S .mark (2 * j)) (S .op) k t i
 amount-on S k t (suc zero) i d = timesMoved-on 1 (S .count) (S .op) k t i d
 amount-on S k t (suc (suc c)) i d = refl
 
-pub record Walkable (s bs : List ℤ) (steps t : ℕ) (x : ℤ) : Type 0 where
+pub record WalkPre (s bs : List ℤ) (steps t : ℕ) (x : ℤ) : Type 0 where
   pub n : ℕ
   pub most : n ≤ 4096
   pub room : 10 * n ≤ length s
@@ -261,7 +261,7 @@ pub record Walked (s : List ℤ) (steps t : ℕ) (x : ℤ) (bs bs′ : List ℤ)
 
 -- k steps are left, from triangle `at` on: what has been added and what they add is what all of them add
 pub record Walking (s bs₀ : List ℤ) (steps t : ℕ) (x : ℤ) (bs : List ℤ) (k at : ℕ) : Type 0 where
-  pub asked : Walkable s bs₀ steps t x
+  pub asked : WalkPre s bs₀ steps t x
   pub inside : at < steps
   pub few : k ≤ steps
   pub sum : ℕ → ℕ → ℕ
@@ -269,7 +269,7 @@ pub record Walking (s bs₀ : List ℤ) (steps t : ℕ) (x : ℤ) (bs : List ℤ
   pub rest : (c i : ℕ) → sum c i + amount (tablesOf s) k at c i ≡ amount (tablesOf s) steps t c i
   pub small : Small (4096 * (steps - k)) bs
 
-pub walking-none : (s bs₀ : List ℤ) (steps t : ℕ) (x : ℤ) → Walkable s bs₀ steps t x → Walking s bs₀ steps t x bs₀ steps t
+pub walking-none : (s bs₀ : List ℤ) (steps t : ℕ) (x : ℤ) → WalkPre s bs₀ steps t x → Walking s bs₀ steps t x bs₀ steps t
 walking-none s bs₀ steps t x W =
     record {
       asked = W;
@@ -299,8 +299,8 @@ module _ {s bs₀ : List ℤ} {steps t : ℕ} {x : ℤ} {bs : List ℤ} {k at : 
   walking-low = omega (arith, G .inside, G .asked .all, G .asked .most)
 
   module _ (d : at ≢ 0) (h : 0 < k) where
-    pub walking-movable : Movable s bs (tablesOf s .op (3 * at)) x
-    walking-movable =
+    pub walking-subtree : SubtreePre s bs (tablesOf s .op (3 * at)) x
+    walking-subtree =
         let W = G .asked in
         record {
           n = W .n;
@@ -315,7 +315,7 @@ module _ {s bs₀ : List ℤ} {steps t : ℕ} {x : ℤ} {bs : List ℤ} {k at : 
           few = omega (arith, W .all, W .most);
         }
 
-    pub walking-next : (bs′ : List ℤ) (at′ : ℕ) → at′ ≡ field0 (tablesOf s .op (3 * at)) → Followed s (tablesOf s .op (3 * at)) x bs bs′ →
+    pub walking-next : (bs′ : List ℤ) (at′ : ℕ) → at′ ≡ field0 (tablesOf s .op (3 * at)) → SubtreeAdded s (tablesOf s .op (3 * at)) x bs bs′ →
         Walking s bs₀ steps t x bs′ (k - 1) at′
     walking-next bs′ at′ to F =
         let W = G .asked in
@@ -343,8 +343,8 @@ bit-turned : (v i : ℕ) → bit (eqb v i) ≡ bit (eqb i v)
 bit-turned v i = elim (ℕ-discrete v i) [ yes e ↦ rw (eq-eqb v i e, eq-eqb i v (sym e)) | no d ↦ rw (ne-eqb v i d, ne-eqb i v (λ e. d (sym e))) ]
 
 module _ (n : ℕ) (ts : List ℕ) (s bs : List ℤ) (t : ℕ) (x : ℤ) (Y : UpdatePre n ts s bs t x) where
-  pub walkable : Walkable s bs (2 * n - 4) t x
-  walkable =
+  pub walk-pre : WalkPre s bs (2 * n - 4) t x
+  walk-pre =
       record {
         n = n;
         most = Y .most;

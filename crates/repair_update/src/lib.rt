@@ -13,8 +13,8 @@ ghost use lib.IntN.{pos, natAbs, _+ℤ_};
 ghost use Rattle.scratch_tables.specs.Tables.{wordAt, tablesOf};
 ghost use Rattle.repair_model.specs.PackedWords.{field0};
 ghost use Rattle.repair_update.specs.Increase.{More, Small};
-ghost use Rattle.repair_update.specs.RangeLoop.{along, Rowable};
-ghost use Rattle.repair_update.specs.WalkLoop.{rowAt, Movable, Followed, Walkable, Walked, UpdatePre, WalkMoved};
+ghost use Rattle.repair_update.specs.RangeLoop.{along, RangePre};
+ghost use Rattle.repair_update.specs.WalkLoop.{preorderAt, SubtreePre, SubtreeAdded, WalkPre, Walked, UpdatePre, WalkMoved};
 
 // x more at place i
 pub fn add_at(numbers: &mut [i64], i: usize, x: i64)
@@ -26,7 +26,7 @@ pub fn add_at(numbers: &mut [i64], i: usize, x: i64)
 
 // x more in coordinate c of each vertex that stands at the places from a to before `end`
 fn add_to_range(coordinates: &mut [i64], scratch: &[i64], a: usize, end: usize, c: usize, x: i64)
-    requires { ⌜ Rowable (now scratch) (now coordinates) a end c x ⌝ }
+    requires { ⌜ RangePre (now scratch) (now coordinates) a end c x ⌝ }
     ensures more { λ r. ⌜ More (along (wordAt (now (scratch .entry))) a (end - a) c) x (now (coordinates .entry)) (now (coordinates .exit)) ⌝ }
     ensures small { λ r. ⌜ ((k : ℕ) → Small k (now (coordinates .entry)) → Small (k + (end - a)) (now (coordinates .exit))) ⌝ }
 {
@@ -38,9 +38,9 @@ fn add_to_range(coordinates: &mut [i64], scratch: &[i64], a: usize, end: usize, 
     }
 }
 
-// where the row of the flag f begins
+// where the preorder of the flag f begins
 fn preorder_start(scratch: &[i64], f: usize) -> usize
-    ensures is { λ r. ⌜ r ≡ rowAt (length (now (scratch .entry))) f ⌝ }
+    ensures is { λ r. ⌜ r ≡ preorderAt (length (now (scratch .entry))) f ⌝ }
     ensures small { λ r. ⌜ r ≤ length (now (scratch .entry)) ⌝ }
 {
     if f == 1 {
@@ -52,8 +52,8 @@ fn preorder_start(scratch: &[i64], f: usize) -> usize
 
 // The subtree that the word w names, if it names one. Both colours go one way, so that nothing is guessed by the flag.
 fn add_to_subtree(coordinates: &mut [i64], scratch: &[i64], w: usize, x: i64)
-    requires { ⌜ Movable (now scratch) (now coordinates) w x ⌝ }
-    ensures { λ r. ⌜ Followed (now (scratch .entry)) w x (now (coordinates .entry)) (now (coordinates .exit)) ⌝ }
+    requires { ⌜ SubtreePre (now scratch) (now coordinates) w x ⌝ }
+    ensures { λ r. ⌜ SubtreeAdded (now (scratch .entry)) w x (now (coordinates .entry)) (now (coordinates .exit)) ⌝ }
 {
     let f = field3(w);
     if f == 0 {
@@ -68,9 +68,9 @@ fn add_to_subtree(coordinates: &mut [i64], scratch: &[i64], w: usize, x: i64)
 
 // one step of the walk, to the next triangle
 fn step(coordinates: &mut [i64], scratch: &[i64], t: usize, x: i64) -> usize
-    requires { ⌜ (t < 65536) × Movable (now scratch) (now coordinates) (tablesOf (now scratch) .op (3 * t)) x ⌝ }
+    requires { ⌜ (t < 65536) × SubtreePre (now scratch) (now coordinates) (tablesOf (now scratch) .op (3 * t)) x ⌝ }
     ensures next { λ r. ⌜ r ≡ field0 (tablesOf (now (scratch .entry)) .op (3 * t)) ⌝ }
-    ensures moved { λ r. ⌜ Followed (now (scratch .entry)) (tablesOf (now (scratch .entry)) .op (3 * t)) x (now (coordinates .entry)) (now (coordinates .exit)) ⌝ }
+    ensures moved { λ r. ⌜ SubtreeAdded (now (scratch .entry)) (tablesOf (now (scratch .entry)) .op (3 * t)) x (now (coordinates .entry)) (now (coordinates .exit)) ⌝ }
 {
     let w = walk_at(scratch, t);
     add_to_subtree(coordinates, scratch, w, x);
@@ -79,7 +79,7 @@ fn step(coordinates: &mut [i64], scratch: &[i64], t: usize, x: i64) -> usize
 
 // the walk of triangle t, in `steps` steps at most
 fn walk(coordinates: &mut [i64], scratch: &[i64], steps: usize, t: usize, x: i64)
-    requires { ⌜ Walkable (now scratch) (now coordinates) steps t x ⌝ }
+    requires { ⌜ WalkPre (now scratch) (now coordinates) steps t x ⌝ }
     ensures { λ r. ⌜ Walked (now (scratch .entry)) steps t x (now (coordinates .entry)) (now (coordinates .exit)) ⌝ }
 {
     let mut k = steps;

@@ -17,9 +17,9 @@ use Rattle.labels_tables.specs.LabelledTables.{oppositeIn, labelIn, apexDart}
 use Rattle.repair_model.specs.PackedWords.{pack, walkDart, withRim, endFlags, walkWord, cornerWord, removedWord, otherWalksWord, Packed}
 use Rattle.repair_model.specs.PackedWords.{WalksPacked}
 
-pub way-is : (w : ℕ → ℕ) (t g g′ r : ℕ) → g ≡ apexDart w t → g′ ≡ next g → r ≡ oppositeIn w g′ → r ≡ walkDart w t
+pub walkDart-is : (w : ℕ → ℕ) (t g g′ r : ℕ) → g ≡ apexDart w t → g′ ≡ next g → r ≡ oppositeIn w g′ → r ≡ walkDart w t
 unfolding walkDart
-way-is w t g g′ r eg en er = rw (er, en, eg)
+walkDart-is w t g g′ r eg en er = rw (er, en, eg)
 
 -- ---- the words
 
@@ -36,45 +36,45 @@ module _ (T : Tables) (o a b e f : ℕ) (ee : e ≡ T .head a) (ef : f ≡ T .co
   no-count : f ≢ o → eqb (T .count b) o ≡ false
   no-count h = ne-eqb (T .count b) o (λ q. h (ef ∙ q))
 
-  pub side-3 : e ≡ o → f ≡ o → 3 ≡ endFlags T o a b
+  pub endFlags-3 : e ≡ o → f ≡ o → 3 ≡ endFlags T o a b
   unfolding endFlags
-  side-3 h k = rw (yes-head h, yes-count k)
+  endFlags-3 h k = rw (yes-head h, yes-count k)
 
-  pub side-1 : e ≡ o → f ≢ o → 1 ≡ endFlags T o a b
+  pub endFlags-1 : e ≡ o → f ≢ o → 1 ≡ endFlags T o a b
   unfolding endFlags
-  side-1 h k = rw (yes-head h, no-count k)
+  endFlags-1 h k = rw (yes-head h, no-count k)
 
-  pub side-2 : e ≢ o → f ≡ o → 2 ≡ endFlags T o a b
+  pub endFlags-2 : e ≢ o → f ≡ o → 2 ≡ endFlags T o a b
   unfolding endFlags
-  side-2 h k = rw (no-head h, yes-count k)
+  endFlags-2 h k = rw (no-head h, yes-count k)
 
-  pub side-0 : e ≢ o → f ≢ o → 0 ≡ endFlags T o a b
+  pub endFlags-0 : e ≢ o → f ≢ o → 0 ≡ endFlags T o a b
   unfolding endFlags
-  side-0 h k = rw (no-head h, no-count k)
+  endFlags-0 h k = rw (no-head h, no-count k)
 
-pub way-word-is : (ts : List ℕ) (T : Tables) (t o a b f r : ℕ) → o ≡ walkDart (T .op) t → a ≡ org ts o → b ≡ tip ts o →
+pub walkWord-is : (ts : List ℕ) (T : Tables) (t o a b f r : ℕ) → o ≡ walkDart (T .op) t → a ≡ org ts o → b ≡ tip ts o →
     f ≡ endFlags T o a b → r ≡ pack (o / 3) a b f →
     r ≡ walkWord ts T t
 unfolding walkWord tri
-way-word-is ts T t o a b f r eo ea eb ef er = rw (er, ef, ea, eb, eo)
+walkWord-is ts T t o a b f r eo ea eb ef er = rw (er, ef, ea, eb, eo)
 
-pub corner-word-is : (ts : List ℕ) (T : Tables) (t g a p b q r w : ℕ) → g ≡ apexDart (T .op) t → a ≡ next g → p ≡ org ts a → b ≡ prev g
+pub cornerWord-is : (ts : List ℕ) (T : Tables) (t g a p b q r w : ℕ) → g ≡ apexDart (T .op) t → a ≡ next g → p ≡ org ts a → b ≡ prev g
     → q ≡ org ts b → r ≡ org ts g →
     w ≡ pack p q r 0 → w ≡ cornerWord ts T t
 unfolding cornerWord
-corner-word-is ts T t g a p b q r w eg ea ep eb eq er ew = rw (ew, ep, ea, eq, eb, er, eg)
+cornerWord-is ts T t g a p b q r w eg ea ep eb eq er ew = rw (ew, ep, ea, eq, eb, er, eg)
 
-pub removed-word-is : (ts : List ℕ) (T : Tables) (k v e a f b w : ℕ) → v ≡ T .mark (2 * k + 1) → e ≡ T .head v → a ≡ tip ts e →
+pub removedWord-is : (ts : List ℕ) (T : Tables) (k v e a f b w : ℕ) → v ≡ T .mark (2 * k + 1) → e ≡ T .head v → a ≡ tip ts e →
     f ≡ T .count v → b ≡ org ts f →
     w ≡ pack v a b 0 → w ≡ removedWord ts T k
 unfolding removedWord
-removed-word-is ts T k v e a f b w ev ee ea ef eb ew = rw (ew, ea, ee, eb, ef, ev)
+removedWord-is ts T k v e a f b w ev ee ea ef eb ew = rw (ew, ea, ee, eb, ef, ev)
 
-pub line-word-is : (T : Tables) (t g d a b w : ℕ) → g ≡ apexDart (T .op) t → d ≡ prev g → a ≡ oppositeIn (T .op) d →
+pub otherWalksWord-is : (T : Tables) (t g d a b w : ℕ) → g ≡ apexDart (T .op) t → d ≡ prev g → a ≡ oppositeIn (T .op) d →
     b ≡ oppositeIn (T .op) g → w ≡ pack (a / 3) (b / 3) 0 0 →
     w ≡ otherWalksWord T t
 unfolding otherWalksWord tri
-line-word-is T t g d a b w eg ed ea eb ew = rw (ew, ea, ed, eb, eg)
+otherWalksWord-is T t g d a b w eg ed ea eb ew = rw (ew, ea, ed, eb, eg)
 
 -- the words of triangle t in their places
 unfoldable pub setWords : List ℕ → ℕ → Tables → Tables
@@ -96,9 +96,9 @@ pub record PackPre (n : ℕ) (s : List ℤ) : Type 0 where
   pub low : (k : ℕ) → k < n - 2 → tablesOf s .mark (2 * k + 1) < 65536
 
 -- of other tables as long, with the same vertices that left
-pub packable-again : (n : ℕ) (s s′ : List ℤ) → PackPre n s → length s′ ≡ length s → tablesOf s′ .mark ≡ tablesOf s .mark →
+pub pack-pre-again : (n : ℕ) (s s′ : List ℤ) → PackPre n s → length s′ ≡ length s → tablesOf s′ .mark ≡ tablesOf s .mark →
     PackPre n s′
-packable-again n s s′ L e m =
+pack-pre-again n s s′ L e m =
     record {
       some = L .some;
       few = L .few;
@@ -110,10 +110,10 @@ withRim-mark : (ts : List ℕ) (T : Tables) → withRim ts T .mark ≡ T .mark
 unfolding withRim setHead setCount
 withRim-mark ts T = refl
 
-pub packable-withRim : (n : ℕ) (ts : List ℕ) (s s′ : List ℤ) → PackPre n s → length s′ ≡ length s →
+pub pack-pre-withRim : (n : ℕ) (ts : List ℕ) (s s′ : List ℤ) → PackPre n s → length s′ ≡ length s →
     tablesOf s′ ≡ withRim ts (tablesOf s)
     → PackPre n s′
-packable-withRim n ts s s′ L e v = packable-again n s s′ L e (ap (λ (T : Tables). T .mark) v ∙ withRim-mark ts (tablesOf s))
+pack-pre-withRim n ts s s′ L e v = pack-pre-again n s s′ L e (ap (λ (T : Tables). T .mark) v ∙ withRim-mark ts (tablesOf s))
 
 -- ---- the triangles
 
@@ -159,13 +159,13 @@ module _ (ts : List ℕ) (T S : Tables) (t : ℕ) (rest : (d : ℕ) → 3 * t �
   unfolding tri next prev
   apex-least = omega (arith, apex-tri (T .op) t)
 
-  same-into : walkDart (S .op) t ≡ walkDart (T .op) t
+  same-walkDart : walkDart (S .op) t ≡ walkDart (T .op) t
   unfolding walkDart oppositeIn
-  same-into = rw (same-apex, rest (next (apexDart (T .op) t)) (apex-least .1))
+  same-walkDart = rw (same-apex, rest (next (apexDart (T .op) t)) (apex-least .1))
 
-  same-way : walkWord ts S t ≡ walkWord ts T t
+  same-walkWord : walkWord ts S t ≡ walkWord ts T t
   unfolding walkWord endFlags
-  same-way = rw (same-into, head, count)
+  same-walkWord = rw (same-walkDart, head, count)
 
   same-corners : cornerWord ts S t ≡ cornerWord ts T t
   unfolding cornerWord
@@ -187,7 +187,7 @@ module _ (n : ℕ) (ts : List ℕ) (T S : Tables) (t : ℕ) (W : TrianglesPacked
         walks = λ i p q.
             upd-other (3 * t + 2) (3 * i) l _ (omega arith) ∙ upd-other (3 * t + 1) (3 * i) c _ (omega arith)
             ∙ elim (ℕ-discrete i t) [
-              | yes d ↦ upd-at (3 * t) (3 * i) w (S .op) (omega arith) ∙ same-way ts T S t (W .rest) (W .head) (W .count) ∙ ap (walkWord ts T) (sym d)
+              | yes d ↦ upd-at (3 * t) (3 * i) w (S .op) (omega arith) ∙ same-walkWord ts T S t (W .rest) (W .head) (W .count) ∙ ap (walkWord ts T) (sym d)
               | no d ↦ upd-other (3 * t) (3 * i) w (S .op) (omega arith) ∙ W .walks i p (omega arith)
             ];
         corners = λ i p q.
@@ -256,8 +256,8 @@ module _ (n : ℕ) (ts : List ℕ) (T S : Tables) (k : ℕ) (L : RemovedPacked n
 -- ---- both
 
 module _ (n : ℕ) (ts : List ℕ) (T T₁ T₂ : Tables) (W : TrianglesPacked n ts T T₁ (2 * n - 4)) (L : RemovedPacked n ts T₁ T₂ (n - 2)) where
-  pub both-laid : Packed n ts T T₂
-  both-laid =
+  pub both-packed : Packed n ts T T₂
+  both-packed =
       record {
         walks = λ t p q. ap (λ (f : ℕ → ℕ). f (3 * t)) (L .op) ∙ W .walks t p q;
         corners = λ t p q. ap (λ (f : ℕ → ℕ). f (3 * t + 1)) (L .op) ∙ W .corners t p q;

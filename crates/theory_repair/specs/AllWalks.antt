@@ -13,7 +13,7 @@ module _ (ts ls : List ℕ) where
   beyond c t = tri (opp ts (next (corner ls t c)))
 
   -- t, the triangle beyond it, and so on until the outer one, of k at most
-  unfoldable pub line : ℕ → ℕ → ℕ → List ℕ
+  unfoldable pub walkTriangles : ℕ → ℕ → ℕ → List ℕ
   unfolding beyond
-  line c zero t = []
-  line c (suc k) t = elim (eqb t 0) [ true ↦ [] | false ↦ t ∷ line c k (beyond c t) ]
+  walkTriangles c zero t = []
+  walkTriangles c (suc k) t = elim (eqb t 0) [ true ↦ [] | false ↦ t ∷ walkTriangles c k (beyond c t) ]

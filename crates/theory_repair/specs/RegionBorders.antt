@@ -18,7 +18,7 @@ use Rattle.theory_sphere.specs.Rotations.{tip-opp}
 use Rattle.theory_realizer.specs.Realizer.{Realizer}
 use Rattle.theory_realizer.specs.Units.{unit0, unit1, vertexAt}
 use Rattle.theory_crossings.specs.UnitMaps.{units}
-use Rattle.theory_repair.specs.AllWalks.{beyond, line}
+use Rattle.theory_repair.specs.AllWalks.{beyond, walkTriangles}
 use Rattle.theory_repair.specs.Regions.{region, often, up, InnerTri, region-below, region-units, gather, own, often-below, often-most, corner-tri}
 use Rattle.theory_repair.specs.Regions.{corner-next, some-corner}
 
@@ -44,10 +44,10 @@ one-region x below most two c l =
         let f : up (up (up a)) ≡ a = omega arith in
         two (up (up a)) (omega arith) (rw f p) (rw (f, e) q)
 
--- a step of a line
-pub line-on : (ts ls : List ℕ) (c k t : ℕ) → t ≢ 0 → line ts ls c (suc k) t ≡ t ∷ line ts ls c k (beyond ts ls c t)
-unfolding line
-line-on ts ls c k t z = rw (ne-eqb t 0 z, line)
+-- a step of a walk
+pub walkTriangles-on : (ts ls : List ℕ) (c k t : ℕ) → t ≢ 0 → walkTriangles ts ls c (suc k) t ≡ t ∷ walkTriangles ts ls c k (beyond ts ls c t)
+unfolding walkTriangles
+walkTriangles-on ts ls c k t z = rw (ne-eqb t 0 z, walkTriangles)
 
 -- the ends of the side that the walk of colour c leaves t by are in the regions of their labels
 record Split (n : ℕ) (ts ls : List ℕ) (u c t : ℕ) : Type 0 where
@@ -223,32 +223,32 @@ module _ {n : ℕ} (ts ls : List ℕ) (sph : Sphere n (length ts / 3) (org ts) (
     on-inner p (stop e) z = omega (arith, p .inside, e, z)
     on-inner p (step d q e w) z = omega (arith, q .inside, e, z)
 
-    -- a line has the whole walk: its length is enough
-    on-line : {s t : ℕ} (k : ℕ) → Split n ts ls u c s → On s t → measure t < k → s ∈ line ts ls c k t
-    on-line zero p w h = absurd (omega arith)
-    on-line {s} {t} (suc k) p (stop e) h = rw (line-on ts ls c k t (on-inner p (stop e))) (List·Memᴰ·head (sym e))
-    on-line {s} {t} (suc k) p (step d q e w) h =
+    -- the list has the whole walk: its length is enough
+    on-walk : {s t : ℕ} (k : ℕ) → Split n ts ls u c s → On s t → measure t < k → s ∈ walkTriangles ts ls c k t
+    on-walk zero p w h = absurd (omega arith)
+    on-walk {s} {t} (suc k) p (stop e) h = rw (walkTriangles-on ts ls c k t (on-inner p (stop e))) (List·Memᴰ·head (sym e))
+    on-walk {s} {t} (suc k) p (step d q e w) h =
         let f = falls d q (on-inner p w) in
         let m = ap measure e in
-        rw (← e, line-on ts ls c k d (on-inner q (stop refl))) (List·Memᴰ·tail (on-line k p w (omega arith)))
+        rw (← e, walkTriangles-on ts ls c k d (on-inner q (stop refl))) (List·Memᴰ·tail (on-walk k p w (omega arith)))
 
-    -- all split triangles are on u's line
-    split-line : (g : ℕ) → Split n ts ls u c g → g ∈ line ts ls c (length ts / 3) u
-    split-line g p =
+    -- all split triangles are on u's walk
+    split-walk : (g : ℕ) → Split n ts ls u c g → g ∈ walkTriangles ts ls c (length ts / 3) u
+    split-walk g p =
         let w : On g u =
         elim (meet (length ts / 3) g u p own-split (often-below ts ls sph size R c (vertexAt ts ls g c))) [ inl w ↦ w | inr w ↦ stop (sym (alone w)) ] in
-        on-line (length ts / 3) p w (often-below ts ls sph size R c (vertexAt ts ls u c))
+        on-walk (length ts / 3) p w (often-below ts ls sph size R c (vertexAt ts ls u c))
 
   -- A triangle off the three walks of u has all of its corners in one region of u.
-  pub off-lines : (u g : ℕ) → 0 < u → u < length ts / 3 → 0 < g → g < length ts / 3 →
-      ((c : ℕ) → c < 3 → g ∈ line ts ls c (length ts / 3) u → ⊥) →
+  pub off-walks : (u g : ℕ) → 0 < u → u < length ts / 3 → 0 < g → g < length ts / 3 →
+      ((c : ℕ) → c < 3 → g ∈ walkTriangles ts ls c (length ts / 3) u → ⊥) →
       (c : ℕ) → c < 3 →
       (unit0 n ts ls u (vertexAt ts ls g c) ≡ unit0 n ts ls u (vertexAt ts ls g 0))
       × (unit1 n ts ls u (vertexAt ts ls g c) ≡ unit1 n ts ls u (vertexAt ts ls g 0))
-  off-lines u g zu hu zg hg off c l =
+  off-walks u g zu hu zg hg off c l =
       let U = units ts ls sph size R in
       let same =
       one-region (λ c. region n ts ls u (vertexAt ts ls g c)) (λ c. region-below ts ls sph size R u (vertexAt ts ls g c))
       (λ c e hc he q. gather ts ls sph size R u g c e (zu, hu) (zg, hg) hc he q)
-      (λ c h p q. off c h (split-line u c (zu, hu) h g (record { inside = (zg, hg); first = p; second = q }))) c l in
+      (λ c h p q. off c h (split-walk u c (zu, hu) h g (record { inside = (zg, hg); first = p; second = q }))) c l in
       region-units ts ls sph size R u (vertexAt ts ls g c) (vertexAt ts ls g 0) (zu, hu) (U .below g c zg hg l) (U .below g 0 zg hg (omega arith)) same

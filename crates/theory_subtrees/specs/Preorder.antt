@@ -1,5 +1,5 @@
--- How a row is made, as pure functions in the shape of the code: the sizes of the subtrees first, from the first vertex to the last; then from the last to
--- the first the place of each, taken from the end of its parent's; then the row. Definitions only.
+-- How a preorder is made, as pure functions in the shape of the code: the sizes of the subtrees first, from the first vertex to the last; then from the last to
+-- the first the place of each, taken from the end of its parent's; then the preorder. Definitions only.
 use Prim.Native.Nat.{ℕ, zero, suc, _+_, _-_}
 use Rattle.scratch_tables.specs.Tables.{upd}
 

@@ -15,24 +15,24 @@ use Rattle.theory_subtrees.specs.Ranges.{places, Nesting, nesting}
 
 -- ---- counts of one entry
 
-times-none : (row : ℕ → ℕ) (a k i : ℕ) → ((p : ℕ) → a ≤ p → p < a + k → row p ≢ i) → times row a k i ≡ 0
+times-none : (order : ℕ → ℕ) (a k i : ℕ) → ((p : ℕ) → a ≤ p → p < a + k → order p ≢ i) → times order a k i ≡ 0
 unfolding times
-times-none row a zero i h = refl
-times-none row a (suc k) i h =
-    omega (arith, ap bit (ne-eqb (row a) i (h a (omega arith) (omega arith))), times-none row (suc a) k i (λ p l b. h p (omega arith) (omega arith)))
+times-none order a zero i h = refl
+times-none order a (suc k) i h =
+    omega (arith, ap bit (ne-eqb (order a) i (h a (omega arith) (omega arith))), times-none order (suc a) k i (λ p l b. h p (omega arith) (omega arith)))
 
-times-once : (row : ℕ → ℕ) (a k i q : ℕ) → a ≤ q → q < a + k → row q ≡ i →
-    ((p : ℕ) → a ≤ p → p < a + k → row p ≡ i → p ≡ q) → times row a k i ≡ 1
+times-once : (order : ℕ → ℕ) (a k i q : ℕ) → a ≤ q → q < a + k → order q ≡ i →
+    ((p : ℕ) → a ≤ p → p < a + k → order p ≡ i → p ≡ q) → times order a k i ≡ 1
 unfolding times
-times-once row a zero i q l b e h = absurd (omega arith)
-times-once row a (suc k) i q l b e h =
+times-once order a zero i q l b e h = absurd (omega arith)
+times-once order a (suc k) i q l b e h =
     elim (ℕ-discrete a q) [
       | yes f ↦
-          let rest = times-none row (suc a) k i (λ p c d g. omega (arith, h p (omega arith) (omega arith) g)) in
-          omega (arith, ap bit (eq-eqb (row a) i (ap row f ∙ e)), rest)
+          let rest = times-none order (suc a) k i (λ p c d g. omega (arith, h p (omega arith) (omega arith) g)) in
+          omega (arith, ap bit (eq-eqb (order a) i (ap order f ∙ e)), rest)
       | no f ↦
-          let rest = times-once row (suc a) k i q (omega (arith, f)) (omega arith) e (λ p c d. h p (omega arith) (omega arith)) in
-          omega (arith, ap bit (ne-eqb (row a) i (λ g. f (h a (omega arith) (omega arith) g))), rest)
+          let rest = times-once order (suc a) k i q (omega (arith, f)) (omega arith) e (λ p c d. h p (omega arith) (omega arith)) in
+          omega (arith, ap bit (ne-eqb (order a) i (λ g. f (h a (omega arith) (omega arith) g))), rest)
     ]
 
 -- ---- each vertex is written once, where no other is
@@ -49,23 +49,23 @@ module _ (m : ℕ) (who up c r : ℕ → ℕ) (apart : (i j : ℕ) → i < m →
             ∙ written k (omega arith) j (omega (arith, e))
       ]
 
--- ---- a row in which each vertex but the root stands at the first place of its range
+-- ---- an order in which each vertex but the root stands at the first place of its range
 
-module _ {m : ℕ} {par : ℕ → ℕ} {size : ℕ → ℕ → ℕ} {from : ℕ → ℕ} (P : Plan m par size from) (vert row : ℕ → ℕ)
-    (once : (i j : ℕ) → i ≤ m → j ≤ m → vert i ≡ vert j → i ≡ j) (stands : (j : ℕ) → j < m → row (from j) ≡ vert j) where
+module _ {m : ℕ} {par : ℕ → ℕ} {size : ℕ → ℕ → ℕ} {from : ℕ → ℕ} (P : Plan m par size from) (vert order : ℕ → ℕ)
+    (once : (i j : ℕ) → i ≤ m → j ≤ m → vert i ≡ vert j → i ≡ j) (stands : (j : ℕ) → j < m → order (from j) ≡ vert j) where
   -- how often i stands in the range of k
   abbrev held : ℕ → ℕ → ℕ
-  held k i = times row (from k) (size k k) i
+  held k i = times order (from k) (size k k) i
 
   -- the vertex at a place
-  entry : (k p : ℕ) → k < m → In size from k p → (v : ℕ) × (v ≤ k) × (from v ≡ p) × (row p ≡ vert v)
+  entry : (k p : ℕ) → k < m → In size from k p → (v : ℕ) × (v ≤ k) × (from v ≡ p) × (order p ≡ vert v)
   entry k p h i =
       let t = owner P k p (omega arith) i in
-      (t .0, t .1, t .2, ap row (sym (t .2)) ∙ stands (t .0) (omega (arith, t .1)))
+      (t .0, t .1, t .2, ap order (sym (t .2)) ∙ stands (t .0) (omega (arith, t .1)))
 
   none : (k i : ℕ) → k < m → ((v : ℕ) → v ≤ k → In size from k (from v) → vert v ≢ i) → held k i ≡ 0
   none k i h out =
-      times-none row (from k) (size k k) i (λ p l b e.
+      times-none order (from k) (size k k) i (λ p l b e.
       let t = entry k p h (l, b) in
       out (t .0) (t .1) (omega (arith, t .2)) (sym (t .3) ∙ e))
 
@@ -76,7 +76,7 @@ module _ {m : ℕ} {par : ℕ → ℕ} {size : ℕ → ℕ → ℕ} {from : ℕ 
   seen k j h b i =
       let t = owner P k (from j) (omega arith) i in
       let e = from-once P (t .0) j (omega (arith, t .1)) b (t .2) in
-      times-once row (from k) (size k k) (vert j) (from j) (i .0) (i .1) (stands j (omega (arith, e, t .1))) (λ p l c q.
+      times-once order (from k) (size k k) (vert j) (from j) (i .0) (i .1) (stands j (omega (arith, e, t .1))) (λ p l c q.
       let s = entry k p h (l, c) in
       sym (s .2) ∙ ap from (once (s .0) j (omega (arith, s .1)) b (sym (s .3) ∙ q)))
 
@@ -124,16 +124,16 @@ module _ {m root : ℕ} {who up c₀ : ℕ → ℕ} (N : Nesting m root who up c
   apart i j h b e = from-once (N .plan) i j (omega arith) (omega arith) (sym (begins-at i h) ∙ e ∙ begins-at j b)
 
   module _ (r₀ : ℕ → ℕ) where
-    abbrev row : ℕ → ℕ
-    row = preorder who up (places m root who up c₀) m r₀
+    abbrev order : ℕ → ℕ
+    order = preorder who up (places m root who up c₀) m r₀
 
-    stands : (j : ℕ) → j < m → row (begins j) ≡ N .vert j
-    stands j h = ap row (sym (begins-at j h)) ∙ written m who up (places m root who up c₀) r₀ apart m (omega arith) j h ∙ sym (N .named j h)
+    stands : (j : ℕ) → j < m → order (begins j) ≡ N .vert j
+    stands j h = ap order (sym (begins-at j h)) ∙ written m who up (places m root who up c₀) r₀ apart m (omega arith) j h ∙ sym (N .named j h)
 
     abbrev part : ℕ → ℕ → ℕ
-    part w i = times row (places m root who up c₀ w - 1) (sizes who up m w) i
+    part w i = times order (places m root who up c₀ w - 1) (sizes who up m w) i
 
-    part-at : (k i : ℕ) → k < m → part (who k) i ≡ times row (begins k) (sizes who up k (N .vert k)) i
+    part-at : (k i : ℕ) → k < m → part (who k) i ≡ times order (begins k) (sizes who up k (N .vert k)) i
     part-at k i h = rw (begins-at k h, size-at k h) refl
 
     part-onward : (k j : ℕ) → k < m → j < m → part (who k) (who j) ≡ bit (eqb (who k) (who j)) + part (who k) (up j)
@@ -144,19 +144,19 @@ module _ {m root : ℕ} {who up c₀ : ℕ → ℕ} (N : Nesting m root who up c
           ← N .named k h,
           ← N .named j b,
           ← N .onward j b,
-        ) (onward (N .plan) (N .vert) row (N .once) stands k j h b)
+        ) (onward (N .plan) (N .vert) order (N .once) stands k j h b)
 
     -- what has no parent stands in no range
     part-outside : (k i : ℕ) → k < m → ((j : ℕ) → j < m → who j ≢ i) → part (who k) i ≡ 0
     part-outside k i h out =
-        part-at k i h ∙ none (N .plan) (N .vert) row (N .once) stands k i h (λ v l _ e.
+        part-at k i h ∙ none (N .plan) (N .vert) order (N .once) stands k i h (λ v l _ e.
         let b : v < m = omega arith in
         out v b (sym (N .named v b) ∙ e))
 
     part-low : (n k p : ℕ) → ((j : ℕ) → j < m → who j < n) → k < m → places m root who up c₀ (who k) - 1 ≤ p →
-        p < places m root who up c₀ (who k) - 1 + sizes who up m (who k) → row p < n
+        p < places m root who up c₀ (who k) - 1 + sizes who up m (who k) → order p < n
     part-low n k p low h l b =
-        let t = entry (N .plan) (N .vert) row (N .once) stands k p h (omega (arith, begins-at k h, size-at k h)) in
+        let t = entry (N .plan) (N .vert) order (N .once) stands k p h (omega (arith, begins-at k h, size-at k h)) in
         let v : t .0 < m = omega (arith, t .1) in
         omega (arith, t .3, N .named (t .0) v, low (t .0) v)
 

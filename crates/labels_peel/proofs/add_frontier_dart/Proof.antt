@@ -8,17 +8,22 @@ set-count-requires : tie.Need-set-count-requires
 set-count-requires c κs = (count-room (c .before .pre .1), c .before .pre .2)
 
 set-head-requires : tie.Need-set-head-requires
-set-head-requires c κs = (
-  head-room (holds-kept (c .before .before .set-count .kept .0) (c .before .before .before .before .pre .0)),
-  c .before .before .before .before .pre .2,
-)
+set-head-requires c κs =
+    let start : tie.Start = search in
+    let after-set-count : tie.After-set-count = search in (
+      head-room (holds-kept (after-set-count .set-count .kept .0) (start .pre .0)),
+      start .pre .2,
+    )
 
 same-length : tie.Need-same-length
 same-length c = search needs
 
 returns : tie.Need-returns
-returns c = border-is (c .before .before .before .before .before .before .args .v) (c .before .before .before .before .before .before .args .w)
-    (c .before .before .before .before .before .before .args .x) _ _ _ (c .before .before .before .before .set-count .ensures) (c .before .set-head .ensures)
+returns c =
+    let start : tie.Start = search in
+    let after-set-count : tie.After-set-count = search in
+    border-is (start .args .v) (start .args .w)
+    (start .args .x) _ _ _ (after-set-count .set-count .ensures) (c .before .set-head .ensures)
 
 pub add-frontier-dart-spec : {M : Type 1} → statement M
 add-frontier-dart-spec = tie.close (tie.spec set-count-requires set-head-requires same-length returns)

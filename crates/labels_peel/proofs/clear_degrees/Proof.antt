@@ -17,14 +17,18 @@ loop-holds : tie.Need-loop-holds Inv-loop μ-loop
 loop-holds c = wiped-none (c .args .n) (c .args .s .now)
 
 mul-set-mark : tie.Need-mul-set-mark Inv-loop μ-loop
-mul-set-mark c = omega (arith, c .before .loop-test .taken, c .before .before .before .pre .small)
+mul-set-mark c =
+    let start : tie.Start Inv-loop μ-loop = search in
+    omega (arith, c .before .loop-test .taken, start .pre .small)
 
 set-mark-requires : tie.Need-set-mark-requires Inv-loop μ-loop
-set-mark-requires c κs = (
-  mark-room (holds-kept (c .before .before .loop .inv .long)
-      (below-holds (c .before .before .loop .v) (c .before .before .before .pre) (c .before .loop-test .taken))),
-  omega arith,
-)
+set-mark-requires c κs =
+    let start : tie.Start Inv-loop μ-loop = search in
+    let at-loop : tie.At-loop Inv-loop μ-loop = search in (
+      mark-room (holds-kept (at-loop .loop .inv .long)
+          (below-holds (at-loop .loop .v) (start .pre) (c .before .loop-test .taken))),
+      omega arith,
+    )
 
 add-v : tie.Need-add-v Inv-loop μ-loop
 add-v c = omega arith
@@ -33,17 +37,23 @@ loop-less : tie.Need-loop-less Inv-loop μ-loop
 loop-less c = omega arith
 
 loop-again : tie.Need-loop-again Inv-loop μ-loop
-loop-again c = record {
-  long = c .before .set-mark .kept .0 ∙ c .before .before .before .before .loop .inv .long;
-  rest = wipe-more (c .before .before .before .before .before .args .n) (c .before .before .before .before .loop .v) _ _ _
-      (c .before .before .before .loop-test .taken) (c .before .set-mark .ensures) (c .before .before .before .before .loop .inv .rest);
-}
+loop-again c =
+    let start : tie.Start Inv-loop μ-loop = search in
+    let at-loop : tie.At-loop Inv-loop μ-loop = search in
+    let in-loop : tie.In-loop Inv-loop μ-loop = search in
+    record {
+      long = c .before .set-mark .kept .0 ∙ at-loop .loop .inv .long;
+      rest = wipe-more (start .args .n) (at-loop .loop .v) _ _ _
+          (in-loop .loop-test .taken) (c .before .set-mark .ensures) (at-loop .loop .inv .rest);
+    }
 
 same-length : tie.Need-same-length Inv-loop μ-loop
 same-length c = c .before .loop .inv .long
 
 returns : tie.Need-returns Inv-loop μ-loop
-returns c = wipe-over (c .before .before .args .n) (c .before .loop .v) _ _ (c .loop-test .left) (c .before .loop .inv .rest)
+returns c =
+    let start : tie.Start Inv-loop μ-loop = search in
+    wipe-over (start .args .n) (c .before .loop .v) _ _ (c .loop-test .left) (c .before .loop .inv .rest)
 
 pub clear-degrees-spec : {M : Type 1} → statement M
 clear-degrees-spec =

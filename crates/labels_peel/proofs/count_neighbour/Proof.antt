@@ -9,31 +9,39 @@ frontier-degree-requires : tie.Need-frontier-degree-requires
 frontier-degree-requires c κs = omega (arith, c .before .pre .0 .small)
 
 increment-degree-requires : tie.Need-increment-degree-requires
-increment-degree-requires c κs = c .before .before .before .before .pre .0
+increment-degree-requires c κs =
+    let start : tie.Start = search in
+    start .pre .0
 
 add-result : tie.Need-add-result
-add-result c = omega (arith, c .before .before .before .before .before .before .pre .1)
+add-result c =
+    let start : tie.Start = search in
+    omega (arith, start .pre .1)
 
 same-length : tie.Need-same-length
 same-length c = search needs
 
 returns : tie.Need-returns
-returns c = (
-  meet-on (c .before .before .before .before .before .before .args .w) (c .before .before .before .before .before .before .args .c)
-      (c .before .before .before .before .frontier-degree .result) _ _ (c .before .before .before .before .frontier-degree .ensures .0)
-      (c .before .before .before .if1 .taken) (c .before .increment-degree .ensures),
-  omega arith,
-)
+returns c =
+    let start : tie.Start = search in
+    let after-frontier-degree : tie.After-frontier-degree = search in
+    let then1 : tie.Then1 = search in (
+      meet-on (start .args .w) (start .args .c)
+          (after-frontier-degree .frontier-degree .result) _ _ (after-frontier-degree .frontier-degree .ensures .0)
+          (then1 .if1 .taken) (c .before .increment-degree .ensures),
+      omega arith,
+    )
 
 same-length-2 : tie.Need-same-length-2
 same-length-2 c = search needs
 
 returns-2 : tie.Need-returns-2
-returns-2 c = (
-  meet-off (c .before .before .before .args .w) (c .before .before .before .args .c) (c .before .frontier-degree .result) _
-      (c .before .frontier-degree .ensures .0) (c .if1 .left),
-  omega arith,
-)
+returns-2 c =
+    let start : tie.Start = search in (
+      meet-off (start .args .w) (start .args .c) (c .before .frontier-degree .result) _
+          (c .before .frontier-degree .ensures .0) (c .if1 .left),
+      omega arith,
+    )
 
 pub count-neighbour-spec : {M : Type 1} → statement M
 count-neighbour-spec =

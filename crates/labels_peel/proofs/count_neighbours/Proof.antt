@@ -25,80 +25,107 @@ origin-requires : tie.Need-origin-requires Inv-loop μ-loop
 origin-requires c κs = search needs
 
 count-neighbour-requires : tie.Need-count-neighbour-requires Inv-loop μ-loop
-count-neighbour-requires c κs = (
-  holds-kept (c .before .before .before .before .before .before .loop .inv .long)
-      (org-holds (c .before .before .before .before .prev-dart .result) (c .before .origin .result)
-      (c .before .before .before .before .before .before .before .before .pre .0) (c .before .origin .ensures .0)),
-  omega (
-    arith,
-    c .before .before .before .before .before .before .loop .inv .most,
-    c .before .before .before .before .before .loop-test .taken,
-    c .before .before .before .before .before .before .before .before .pre .0 .few,
-  ),
-)
+count-neighbour-requires c κs =
+    let start : tie.Start Inv-loop μ-loop = search in
+    let at-loop : tie.At-loop Inv-loop μ-loop = search in
+    let in-loop : tie.In-loop Inv-loop μ-loop = search in
+    let after-prev-dart : tie.After-prev-dart Inv-loop μ-loop = search in (
+      holds-kept (at-loop .loop .inv .long)
+          (org-holds (after-prev-dart .prev-dart .result) (c .before .origin .result)
+          (start .pre .0) (c .before .origin .ensures .0)),
+      omega (
+        arith,
+        at-loop .loop .inv .most,
+        in-loop .loop-test .taken,
+        start .pre .0 .few,
+      ),
+    )
 
 same-length : tie.Need-same-length Inv-loop μ-loop
-same-length c = c .before .before .count-neighbour .kept .0 ∙ c .before .before .before .before .before .before .before .before .before .loop .inv .long
+same-length c =
+    let at-loop : tie.At-loop Inv-loop μ-loop = search in
+    let after-count-neighbour : tie.After-count-neighbour Inv-loop μ-loop = search in
+    after-count-neighbour .count-neighbour .kept .0 ∙ at-loop .loop .inv .long
 
 returns : tie.Need-returns Inv-loop μ-loop
-returns c = (
-  round-over _ (c .before .before .before .before .before .before .before .before .before .before .before .args .first)
-      (c .before .before .before .before .before .before .before .before .before .loop .k)
-      (c .before .before .before .before .before .before .before .before .before .loop .d)
-      (c .before .before .before .before .before .before .before .before .before .loop .c)
-      (c .before .before .before .before .before .before .before .prev-dart .result) (c .before .before .before .before .before .opposite .result)
-      (c .before .before .before .before .origin .result) (c .before .before .count-neighbour .result) _ _ _
-      (c .before .before .before .before .before .before .before .before .loop-test .taken)
-      (c .before .before .before .before .before .before .before .prev-dart .ensures) (c .before .before .before .before .before .opposite .ensures .0)
-      (c .before .before .before .before .origin .ensures .0) (c .before .before .count-neighbour .ensures .0) (c .if1 .taken)
-      (c .before .before .before .before .before .before .before .before .before .loop .inv .rest),
-  omega (
-    arith,
-    c .before .before .before .before .before .before .before .before .before .loop .inv .most,
-    c .before .before .before .before .before .before .before .before .loop-test .taken,
-    c .before .before .count-neighbour .ensures .1,
-    c .before .before .before .before .before .before .before .before .before .before .before .pre .0 .few,
-  ),
-)
+returns c =
+    let start : tie.Start Inv-loop μ-loop = search in
+    let at-loop : tie.At-loop Inv-loop μ-loop = search in
+    let in-loop : tie.In-loop Inv-loop μ-loop = search in
+    let after-prev-dart : tie.After-prev-dart Inv-loop μ-loop = search in
+    let after-opposite : tie.After-opposite Inv-loop μ-loop = search in
+    let after-origin : tie.After-origin Inv-loop μ-loop = search in
+    let after-count-neighbour : tie.After-count-neighbour Inv-loop μ-loop = search in (
+      round-over _ (start .args .first)
+          (at-loop .loop .k)
+          (at-loop .loop .d)
+          (at-loop .loop .c)
+          (after-prev-dart .prev-dart .result) (after-opposite .opposite .result)
+          (after-origin .origin .result) (after-count-neighbour .count-neighbour .result) _ _ _
+          (in-loop .loop-test .taken)
+          (after-prev-dart .prev-dart .ensures) (after-opposite .opposite .ensures .0)
+          (after-origin .origin .ensures .0) (after-count-neighbour .count-neighbour .ensures .0) (c .if1 .taken)
+          (at-loop .loop .inv .rest),
+      omega (
+        arith,
+        at-loop .loop .inv .most,
+        in-loop .loop-test .taken,
+        after-count-neighbour .count-neighbour .ensures .1,
+        start .pre .0 .few,
+      ),
+    )
 
 sub-k : tie.Need-sub-k Inv-loop μ-loop
-sub-k c = omega (arith, c .before .before .before .before .before .before .before .before .loop-test .taken)
+sub-k c =
+    let in-loop : tie.In-loop Inv-loop μ-loop = search in
+    omega (arith, in-loop .loop-test .taken)
 
 loop-less : tie.Need-loop-less Inv-loop μ-loop
-loop-less c = omega (arith, c .before .before .before .before .before .before .before .before .loop-test .taken)
+loop-less c =
+    let in-loop : tie.In-loop Inv-loop μ-loop = search in
+    omega (arith, in-loop .loop-test .taken)
 
 loop-again : tie.Need-loop-again Inv-loop μ-loop
-loop-again c = record {
-  long = c .before .before .count-neighbour .kept .0
-      ∙ c .before .before .before .before .before .before .before .before .before .loop .inv .long;
-  dart = omega (arith, c .before .before .before .before .before .opposite .ensures .1);
-  most = omega (
-    arith,
-    c .before .before .before .before .before .before .before .before .before .loop .inv .most,
-    c .before .before .before .before .before .before .before .before .loop-test .taken,
-    c .before .before .count-neighbour .ensures .1,
-  );
-  rest = round-more _ (c .before .before .before .before .before .before .before .before .before .before .before .args .first)
-      (c .before .before .before .before .before .before .before .before .before .loop .k)
-      (c .before .before .before .before .before .before .before .before .before .loop .d)
-      (c .before .before .before .before .before .before .before .before .before .loop .c)
-      (c .before .before .before .before .before .before .before .prev-dart .result) (c .before .before .before .before .before .opposite .result)
-      (c .before .before .before .before .origin .result) (c .before .before .count-neighbour .result) _ _ _
-      (c .before .before .before .before .before .before .before .before .loop-test .taken)
-      (c .before .before .before .before .before .before .before .prev-dart .ensures) (c .before .before .before .before .before .opposite .ensures .0)
-      (c .before .before .before .before .origin .ensures .0) (c .before .before .count-neighbour .ensures .0) (c .if1 .left)
-      (c .before .before .before .before .before .before .before .before .before .loop .inv .rest);
-}
+loop-again c =
+    let start : tie.Start Inv-loop μ-loop = search in
+    let at-loop : tie.At-loop Inv-loop μ-loop = search in
+    let in-loop : tie.In-loop Inv-loop μ-loop = search in
+    let after-prev-dart : tie.After-prev-dart Inv-loop μ-loop = search in
+    let after-opposite : tie.After-opposite Inv-loop μ-loop = search in
+    let after-origin : tie.After-origin Inv-loop μ-loop = search in
+    let after-count-neighbour : tie.After-count-neighbour Inv-loop μ-loop = search in
+    record {
+      long = after-count-neighbour .count-neighbour .kept .0
+          ∙ at-loop .loop .inv .long;
+      dart = omega (arith, after-opposite .opposite .ensures .1);
+      most = omega (
+        arith,
+        at-loop .loop .inv .most,
+        in-loop .loop-test .taken,
+        after-count-neighbour .count-neighbour .ensures .1,
+      );
+      rest = round-more _ (start .args .first)
+          (at-loop .loop .k)
+          (at-loop .loop .d)
+          (at-loop .loop .c)
+          (after-prev-dart .prev-dart .result) (after-opposite .opposite .result)
+          (after-origin .origin .result) (after-count-neighbour .count-neighbour .result) _ _ _
+          (in-loop .loop-test .taken)
+          (after-prev-dart .prev-dart .ensures) (after-opposite .opposite .ensures .0)
+          (after-origin .origin .ensures .0) (after-count-neighbour .count-neighbour .ensures .0) (c .if1 .left)
+          (at-loop .loop .inv .rest);
+    }
 
 same-length-2 : tie.Need-same-length-2 Inv-loop μ-loop
 same-length-2 c = c .before .loop .inv .long
 
 returns-2 : tie.Need-returns-2 Inv-loop μ-loop
-returns-2 c = (
-  round-none _ (c .before .before .before .args .first) (c .before .loop .k) (c .before .loop .d) (c .before .loop .c) _ _ (c .loop-test .left)
-      (c .before .loop .inv .rest),
-  omega (arith, c .before .loop .inv .most, c .before .before .before .pre .0 .few),
-)
+returns-2 c =
+    let start : tie.Start Inv-loop μ-loop = search in (
+      round-none _ (start .args .first) (c .before .loop .k) (c .before .loop .d) (c .before .loop .c) _ _ (c .loop-test .left)
+          (c .before .loop .inv .rest),
+      omega (arith, c .before .loop .inv .most, start .pre .0 .few),
+    )
 
 pub count-neighbours-spec : {M : Type 1} → statement M
 count-neighbours-spec =

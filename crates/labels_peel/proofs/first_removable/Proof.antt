@@ -19,40 +19,62 @@ loop-holds : tie.Need-loop-holds Inv-loop μ-loop
 loop-holds c = seeking-none _ (c .before .args .n) _ (c .before .args .from) _
 
 first-in-group-requires : tie.Need-first-in-group-requires Inv-loop μ-loop
-first-in-group-requires c κs = (
-  wide-kept (c .before .before .loop .inv .long) (c .before .before .before .before .pre .0),
-  omega (arith, c .before .loop-test .taken, c .before .before .before .before .pre .1),
-)
+first-in-group-requires c κs =
+    let start : tie.Start Inv-loop μ-loop = search in
+    let at-loop : tie.At-loop Inv-loop μ-loop = search in (
+      wide-kept (at-loop .loop .inv .long) (start .pre .0),
+      omega (arith, c .before .loop-test .taken, start .pre .1),
+    )
 
 same-length : tie.Need-same-length Inv-loop μ-loop
-same-length c = c .before .before .first-in-group .kept .1 .1 .0 ∙ c .before .before .before .before .before .loop .inv .long
+same-length c =
+    let at-loop : tie.At-loop Inv-loop μ-loop = search in
+    let after-first-in-group : tie.After-first-in-group Inv-loop μ-loop = search in
+    after-first-in-group .first-in-group .kept .1 .1 .0 ∙ at-loop .loop .inv .long
 
 returns : tie.Need-returns Inv-loop μ-loop
-returns c = seek-over _ (c .before .before .before .before .before .before .before .args .n)
-    (c .before .before .before .before .before .before .before .args .n / 256 + 1) (c .before .before .before .before .before .loop .g)
-    (c .before .before .first-in-group .result) _ _ _ (c .before .before .before .before .loop-test .taken) (c .before .before .first-in-group .ensures)
-    (c .if1 .taken) (c .before .before .before .before .before .loop .inv .rest)
+returns c =
+    let start : tie.Start Inv-loop μ-loop = search in
+    let at-loop : tie.At-loop Inv-loop μ-loop = search in
+    let in-loop : tie.In-loop Inv-loop μ-loop = search in
+    let after-first-in-group : tie.After-first-in-group Inv-loop μ-loop = search in
+    seek-over _ (start .args .n)
+    (start .args .n / 256 + 1) (at-loop .loop .g)
+    (after-first-in-group .first-in-group .result) _ _ _ (in-loop .loop-test .taken) (after-first-in-group .first-in-group .ensures)
+    (c .if1 .taken) (at-loop .loop .inv .rest)
 
 add-g : tie.Need-add-g Inv-loop μ-loop
-add-g c = omega (arith, c .before .before .before .before .loop-test .taken, c .before .before .before .before .before .before .before .pre .0 .small)
+add-g c =
+    let start : tie.Start Inv-loop μ-loop = search in
+    let in-loop : tie.In-loop Inv-loop μ-loop = search in
+    omega (arith, in-loop .loop-test .taken, start .pre .0 .small)
 
 loop-less : tie.Need-loop-less Inv-loop μ-loop
-loop-less c = omega (arith, c .before .before .before .before .loop-test .taken)
+loop-less c =
+    let in-loop : tie.In-loop Inv-loop μ-loop = search in
+    omega (arith, in-loop .loop-test .taken)
 
 loop-again : tie.Need-loop-again Inv-loop μ-loop
-loop-again c = record {
-  long = c .before .before .first-in-group .kept .1 .1 .0 ∙ c .before .before .before .before .before .loop .inv .long;
-  rest = seek-more _ (c .before .before .before .before .before .before .before .args .n)
-      (c .before .before .before .before .before .before .before .args .n / 256 + 1) (c .before .before .before .before .before .loop .g)
-      (c .before .before .first-in-group .result) _ _ _ (c .before .before .before .before .loop-test .taken) (c .before .before .first-in-group .ensures)
-      (c .if1 .left) (c .before .before .before .before .before .loop .inv .rest);
-}
+loop-again c =
+    let start : tie.Start Inv-loop μ-loop = search in
+    let at-loop : tie.At-loop Inv-loop μ-loop = search in
+    let in-loop : tie.In-loop Inv-loop μ-loop = search in
+    let after-first-in-group : tie.After-first-in-group Inv-loop μ-loop = search in
+    record {
+      long = after-first-in-group .first-in-group .kept .1 .1 .0 ∙ at-loop .loop .inv .long;
+      rest = seek-more _ (start .args .n)
+          (start .args .n / 256 + 1) (at-loop .loop .g)
+          (after-first-in-group .first-in-group .result) _ _ _ (in-loop .loop-test .taken) (after-first-in-group .first-in-group .ensures)
+          (c .if1 .left) (at-loop .loop .inv .rest);
+    }
 
 same-length-2 : tie.Need-same-length-2 Inv-loop μ-loop
 same-length-2 c = c .before .loop .inv .long
 
 returns-2 : tie.Need-returns-2 Inv-loop μ-loop
-returns-2 c = seek-none _ (c .before .before .before .args .n) (c .before .before .before .args .n / 256 + 1) (c .before .loop .g) _ _ (c .loop-test .left)
+returns-2 c =
+    let start : tie.Start Inv-loop μ-loop = search in
+    seek-none _ (start .args .n) (start .args .n / 256 + 1) (c .before .loop .g) _ _ (c .loop-test .left)
     (c .before .loop .inv .rest)
 
 pub first-removable-spec : {M : Type 1} → statement M

@@ -10,28 +10,45 @@ clear-degrees-requires : tie.Need-clear-degrees-requires
 clear-degrees-requires c κs = search needs
 
 init-degrees-requires : tie.Need-init-degrees-requires
-init-degrees-requires c κs = room-kept (c .before .before .clear-degrees .kept .1 .0) (c .before .before .before .before .before .pre .0)
+init-degrees-requires c κs =
+    let start : tie.Start = search in
+    let after-clear-degrees : tie.After-clear-degrees = search in
+    room-kept (after-clear-degrees .clear-degrees .kept .1 .0) (start .pre .0)
 
 init-frontier-requires : tie.Need-init-frontier-requires
-init-frontier-requires c κs = room-kept (c .before .before .init-degrees .kept .1 .0 ∙ c .before .before .before .before .before .clear-degrees .kept .1 .0)
-    (c .before .before .before .before .before .before .before .before .pre .0)
+init-frontier-requires c κs =
+    let start : tie.Start = search in
+    let after-clear-degrees : tie.After-clear-degrees = search in
+    let after-init-degrees : tie.After-init-degrees = search in
+    room-kept (after-init-degrees .init-degrees .kept .1 .0 ∙ after-clear-degrees .clear-degrees .kept .1 .0)
+    (start .pre .0)
 
 init-labels-requires : tie.Need-init-labels-requires
-init-labels-requires c κs = omega (
-  arith,
-  c .before .before .init-frontier .kept .1 .0,
-  c .before .before .before .before .before .init-degrees .kept .1 .0,
-  c .before .before .before .before .before .before .before .before .clear-degrees .kept .1 .0,
-  c .before .before .before .before .before .before .before .before .before .before .before .pre .0 .vertices 0 .room,
-)
+init-labels-requires c κs =
+    let start : tie.Start = search in
+    let after-clear-degrees : tie.After-clear-degrees = search in
+    let after-init-degrees : tie.After-init-degrees = search in
+    let after-init-frontier : tie.After-init-frontier = search in
+    omega (
+      arith,
+      after-init-frontier .init-frontier .kept .1 .0,
+      after-init-degrees .init-degrees .kept .1 .0,
+      after-clear-degrees .clear-degrees .kept .1 .0,
+      start .pre .0 .vertices 0 .room,
+    )
 
 same-length : tie.Need-same-length
 same-length c = search needs
 
 returns : tie.Need-returns
-returns c = begin-is _ (c .before .before .before .before .before .before .before .before .before .before .before .before .before .args .n) _ _ _ _ _
-    (c .before .before .before .before .before .before .before .before .before .before .clear-degrees .ensures)
-    (c .before .before .before .before .before .before .before .init-degrees .ensures) (c .before .before .before .before .init-frontier .ensures)
+returns c =
+    let start : tie.Start = search in
+    let after-clear-degrees : tie.After-clear-degrees = search in
+    let after-init-degrees : tie.After-init-degrees = search in
+    let after-init-frontier : tie.After-init-frontier = search in
+    begin-is _ (start .args .n) _ _ _ _ _
+    (after-clear-degrees .clear-degrees .ensures)
+    (after-init-degrees .init-degrees .ensures) (after-init-frontier .init-frontier .ensures)
     (c .before .init-labels .ensures)
 
 pub init-spec : {M : Type 1} → statement M

@@ -24,31 +24,40 @@ dart-word-requires-3 : tie.Need-dart-word-requires-3
 dart-word-requires-3 c κs = search needs
 
 set-op-requires : tie.Need-set-op-requires
-set-op-requires c κs = (
-  outer-room _ 0 (c .before .before .before .before .before .before .before .before .before .before .pre) (omega arith),
-  c .before .before .before .before .before .before .before .dart-word .ensures .1,
-)
+set-op-requires c κs =
+    let start : tie.Start = search in
+    let after-dart-word : tie.After-dart-word = search in (
+      outer-room _ 0 (start .pre) (omega arith),
+      after-dart-word .dart-word .ensures .1,
+    )
 
 set-op-requires-2 : tie.Need-set-op-requires-2
-set-op-requires-2 c κs = (
-  outer-room _ 1 (omega (
-    arith,
-    c .before .before .set-op .kept .0,
-    c .before .before .before .before .before .before .before .before .before .before .before .before .before .pre,
-  )) (omega arith),
-  c .before .before .before .before .before .before .before .dart-word2 .ensures .1,
-)
+set-op-requires-2 c κs =
+    let start : tie.Start = search in
+    let after-dart-word2 : tie.After-dart-word2 = search in
+    let after-set-op : tie.After-set-op = search in (
+      outer-room _ 1 (omega (
+        arith,
+        after-set-op .set-op .kept .0,
+        start .pre,
+      )) (omega arith),
+      after-dart-word2 .dart-word2 .ensures .1,
+    )
 
 set-op-requires-3 : tie.Need-set-op-requires-3
-set-op-requires-3 c κs = (
-  outer-room _ 2 (omega (
-    arith,
-    c .before .before .set-op2 .kept .0,
-    c .before .before .before .before .before .set-op .kept .0,
-    c .before .before .before .before .before .before .before .before .before .before .before .before .before .before .before .before .pre,
-  )) (omega arith),
-  c .before .before .before .before .before .before .before .dart-word3 .ensures .1,
-)
+set-op-requires-3 c κs =
+    let start : tie.Start = search in
+    let after-dart-word3 : tie.After-dart-word3 = search in
+    let after-set-op : tie.After-set-op = search in
+    let after-set-op2 : tie.After-set-op2 = search in (
+      outer-room _ 2 (omega (
+        arith,
+        after-set-op2 .set-op2 .kept .0,
+        after-set-op .set-op .kept .0,
+        start .pre,
+      )) (omega arith),
+      after-dart-word3 .dart-word3 .ensures .1,
+    )
 
 same-length : tie.Need-same-length
 same-length c = search needs

@@ -8,23 +8,34 @@ frontier-degree-requires : tie.Need-frontier-degree-requires
 frontier-degree-requires c κs = c .before .pre
 
 returns : tie.Need-returns
-returns c = can-not _ _ (c .before .before .before .args .v) (c .before .frontier-degree .result) (c .before .frontier-degree .ensures .0) (c .if1 .taken)
+returns c =
+    let start : tie.Start = search in
+    can-not _ _ (start .args .v) (c .before .frontier-degree .result) (c .before .frontier-degree .ensures .0) (c .if1 .taken)
 
 origin-requires : tie.Need-origin-requires
 origin-requires c κs = search needs
 
 returns-2 : tie.Need-returns-2
-returns-2 c = can-not-0 _ _ (c .before .before .before .before .before .args .v) (c .before .before .before .frontier-degree .result)
-    (c .before .origin .result) (c .before .before .before .frontier-degree .ensures .0) (c .before .before .if1 .left) (c .before .origin .ensures .0)
+returns-2 c =
+    let start : tie.Start = search in
+    let after-frontier-degree : tie.After-frontier-degree = search in
+    let else1 : tie.Else1 = search in
+    can-not-0 _ _ (start .args .v) (after-frontier-degree .frontier-degree .result)
+    (c .before .origin .result) (after-frontier-degree .frontier-degree .ensures .0) (else1 .if1 .left) (c .before .origin .ensures .0)
     (c .if2 .taken)
 
 origin-requires-2 : tie.Need-origin-requires-2
 origin-requires-2 c κs = search needs
 
 returns-3 : tie.Need-returns-3
-returns-3 c = can-but-2 _ _ (c .before .before .before .before .before .before .args .v) (c .before .before .before .before .frontier-degree .result)
-    (c .before .before .origin .result) (c .origin2 .result) (c .before .before .before .before .frontier-degree .ensures .0)
-    (c .before .before .before .if1 .left) (c .before .before .origin .ensures .0) (c .before .if2 .left) (c .origin2 .ensures .0)
+returns-3 c =
+    let start : tie.Start = search in
+    let after-frontier-degree : tie.After-frontier-degree = search in
+    let else1 : tie.Else1 = search in
+    let after-origin : tie.After-origin = search in
+    can-but-2 _ _ (start .args .v) (after-frontier-degree .frontier-degree .result)
+    (after-origin .origin .result) (c .origin2 .result) (after-frontier-degree .frontier-degree .ensures .0)
+    (else1 .if1 .left) (after-origin .origin .ensures .0) (c .before .if2 .left) (c .origin2 .ensures .0)
 
 pub is-removable-spec : {M : Type 1} → statement M
 is-removable-spec =

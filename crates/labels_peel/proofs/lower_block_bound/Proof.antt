@@ -13,17 +13,22 @@ smaller-requires : tie.Need-smaller-requires
 smaller-requires c κs = search needs
 
 set-block-bound-requires : tie.Need-set-block-bound-requires
-set-block-bound-requires c κs = (
-  less-holds (c .before .before .before .before .args .w / 16) (omega arith) (c .before .before .before .before .pre),
-  omega (arith, c .smaller .ensures),
-)
+set-block-bound-requires c κs =
+    let start : tie.Start = search in (
+      less-holds (start .args .w / 16) (omega arith) (start .pre),
+      omega (arith, c .smaller .ensures),
+    )
 
 same-length : tie.Need-same-length
 same-length c = search needs
 
 returns : tie.Need-returns
-returns c = block-is (c .before .before .before .before .before .before .args .w) (c .before .before .before .before .block-bound .result)
-    (c .before .before .smaller .result) _ _ (c .before .before .before .before .block-bound .ensures .0) (c .before .before .smaller .ensures)
+returns c =
+    let start : tie.Start = search in
+    let after-block-bound : tie.After-block-bound = search in
+    let after-smaller : tie.After-smaller = search in
+    block-is (start .args .w) (after-block-bound .block-bound .result)
+    (after-smaller .smaller .result) _ _ (after-block-bound .block-bound .ensures .0) (after-smaller .smaller .ensures)
     (c .before .set-block-bound .ensures)
 
 pub lower-block-bound-spec : {M : Type 1} → statement M

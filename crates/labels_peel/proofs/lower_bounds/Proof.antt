@@ -9,18 +9,29 @@ lower-block-bound-requires : tie.Need-lower-block-bound-requires
 lower-block-bound-requires c κs = search needs
 
 lower-group-bound-requires : tie.Need-lower-group-bound-requires
-lower-group-bound-requires c κs = holds-kept (c .before .before .lower-block-bound .kept .0) (c .before .before .before .before .pre)
+lower-group-bound-requires c κs =
+    let start : tie.Start = search in
+    let after-lower-block-bound : tie.After-lower-block-bound = search in
+    holds-kept (after-lower-block-bound .lower-block-bound .kept .0) (start .pre)
 
 lower-global-bound-requires : tie.Need-lower-global-bound-requires
-lower-global-bound-requires c κs = holds-kept (c .before .before .lower-group-bound .kept .0
-    ∙ c .before .before .before .before .before .lower-block-bound .kept .0) (c .before .before .before .before .before .before .before .pre)
+lower-global-bound-requires c κs =
+    let start : tie.Start = search in
+    let after-lower-block-bound : tie.After-lower-block-bound = search in
+    let after-lower-group-bound : tie.After-lower-group-bound = search in
+    holds-kept (after-lower-group-bound .lower-group-bound .kept .0
+    ∙ after-lower-block-bound .lower-block-bound .kept .0) (start .pre)
 
 same-length : tie.Need-same-length
 same-length c = search needs
 
 returns : tie.Need-returns
-returns c = wake-is (c .before .before .before .before .before .before .before .before .before .args .w) _ _ _ _
-    (c .before .before .before .before .before .before .before .lower-block-bound .ensures) (c .before .before .before .before .lower-group-bound .ensures)
+returns c =
+    let start : tie.Start = search in
+    let after-lower-block-bound : tie.After-lower-block-bound = search in
+    let after-lower-group-bound : tie.After-lower-group-bound = search in
+    wake-is (start .args .w) _ _ _ _
+    (after-lower-block-bound .lower-block-bound .ensures) (after-lower-group-bound .lower-group-bound .ensures)
     (c .before .lower-global-bound .ensures)
 
 pub lower-bounds-spec : {M : Type 1} → statement M

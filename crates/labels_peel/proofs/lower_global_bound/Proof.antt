@@ -12,17 +12,22 @@ smaller-requires : tie.Need-smaller-requires
 smaller-requires c κs = search needs
 
 set-global-bound-requires : tie.Need-set-global-bound-requires
-set-global-bound-requires c κs = (
-  less-holds 0 (omega arith) (c .before .before .before .before .pre),
-  omega (arith, c .smaller .ensures, c .before .before .before .before .pre .small),
-)
+set-global-bound-requires c κs =
+    let start : tie.Start = search in (
+      less-holds 0 (omega arith) (start .pre),
+      omega (arith, c .smaller .ensures, start .pre .small),
+    )
 
 same-length : tie.Need-same-length
 same-length c = search needs
 
 returns : tie.Need-returns
-returns c = all-groups-is (c .before .before .before .before .before .before .args .w) (c .before .before .before .before .global-bound .result)
-    (c .before .before .smaller .result) _ _ (c .before .before .before .before .global-bound .ensures) (c .before .before .smaller .ensures)
+returns c =
+    let start : tie.Start = search in
+    let after-global-bound : tie.After-global-bound = search in
+    let after-smaller : tie.After-smaller = search in
+    all-groups-is (start .args .w) (after-global-bound .global-bound .result)
+    (after-smaller .smaller .result) _ _ (after-global-bound .global-bound .ensures) (after-smaller .smaller .ensures)
     (c .before .set-global-bound .ensures)
 
 pub lower-global-bound-spec : {M : Type 1} → statement M

@@ -13,17 +13,22 @@ smaller-requires : tie.Need-smaller-requires
 smaller-requires c κs = search needs
 
 set-group-bound-requires : tie.Need-set-group-bound-requires
-set-group-bound-requires c κs = (
-  less-holds (c .before .before .before .before .args .w / 256) (omega arith) (c .before .before .before .before .pre),
-  omega (arith, c .smaller .ensures),
-)
+set-group-bound-requires c κs =
+    let start : tie.Start = search in (
+      less-holds (start .args .w / 256) (omega arith) (start .pre),
+      omega (arith, c .smaller .ensures),
+    )
 
 same-length : tie.Need-same-length
 same-length c = search needs
 
 returns : tie.Need-returns
-returns c = group-is (c .before .before .before .before .before .before .args .w) (c .before .before .before .before .group-bound .result)
-    (c .before .before .smaller .result) _ _ (c .before .before .before .before .group-bound .ensures) (c .before .before .smaller .ensures)
+returns c =
+    let start : tie.Start = search in
+    let after-group-bound : tie.After-group-bound = search in
+    let after-smaller : tie.After-smaller = search in
+    group-is (start .args .w) (after-group-bound .group-bound .result)
+    (after-smaller .smaller .result) _ _ (after-group-bound .group-bound .ensures) (after-smaller .smaller .ensures)
     (c .before .set-group-bound .ensures)
 
 pub lower-group-bound-spec : {M : Type 1} → statement M

@@ -25,45 +25,68 @@ opposite-requires : tie.Need-opposite-requires Inv-loop μ-loop
 opposite-requires c κs = search needs
 
 pass-triangle-requires : tie.Need-pass-triangle-requires Inv-loop μ-loop
-pass-triangle-requires c κs = room-kept (c .before .before .before .before .before .before .loop .inv .long)
-    (c .before .before .before .before .before .before .before .before .pre .0)
+pass-triangle-requires c κs =
+    let start : tie.Start Inv-loop μ-loop = search in
+    let at-loop : tie.At-loop Inv-loop μ-loop = search in
+    room-kept (at-loop .loop .inv .long)
+    (start .pre .0)
 
 same-length : tie.Need-same-length Inv-loop μ-loop
-same-length c = c .before .before .pass-triangle .kept .1 .0 ∙ c .before .before .before .before .before .before .before .before .before .loop .inv .long
+same-length c =
+    let at-loop : tie.At-loop Inv-loop μ-loop = search in
+    let after-pass-triangle : tie.After-pass-triangle Inv-loop μ-loop = search in
+    after-pass-triangle .pass-triangle .kept .1 .0 ∙ at-loop .loop .inv .long
 
 returns : tie.Need-returns Inv-loop μ-loop
-returns c = fan-over _ (c .before .before .before .before .before .before .before .before .before .before .before .args .right)
-    (c .before .before .before .before .before .before .before .before .before .loop .k)
-    (c .before .before .before .before .before .before .before .before .before .loop .g)
-    (c .before .before .before .before .before .before .before .prev-dart .result) (c .before .before .before .before .opposite .result)
-    (c .before .before .before .before .before .before .origin .result) _ _ _
-    (c .before .before .before .before .before .before .before .before .loop-test .taken)
-    (c .before .before .before .before .before .before .before .prev-dart .ensures) (c .before .before .before .before .before .before .origin .ensures .0)
-    (c .before .before .before .before .opposite .ensures .0) (c .before .before .pass-triangle .ensures) (c .if1 .taken)
-    (c .before .before .before .before .before .before .before .before .before .loop .inv .rest)
+returns c =
+    let start : tie.Start Inv-loop μ-loop = search in
+    let at-loop : tie.At-loop Inv-loop μ-loop = search in
+    let in-loop : tie.In-loop Inv-loop μ-loop = search in
+    let after-prev-dart : tie.After-prev-dart Inv-loop μ-loop = search in
+    let after-origin : tie.After-origin Inv-loop μ-loop = search in
+    let after-opposite : tie.After-opposite Inv-loop μ-loop = search in
+    let after-pass-triangle : tie.After-pass-triangle Inv-loop μ-loop = search in
+    fan-over _ (start .args .right)
+    (at-loop .loop .k)
+    (at-loop .loop .g)
+    (after-prev-dart .prev-dart .result) (after-opposite .opposite .result)
+    (after-origin .origin .result) _ _ _
+    (in-loop .loop-test .taken)
+    (after-prev-dart .prev-dart .ensures) (after-origin .origin .ensures .0)
+    (after-opposite .opposite .ensures .0) (after-pass-triangle .pass-triangle .ensures) (c .if1 .taken)
+    (at-loop .loop .inv .rest)
 
 enter-frontier-requires : tie.Need-enter-frontier-requires Inv-loop μ-loop
-enter-frontier-requires c κs = (
-  room-kept (c .before .before .before .pass-triangle .kept .1 .0
-      ∙ c .before .before .before .before .before .before .before .before .before .before .loop .inv .long)
-      (c .before .before .before .before .before .before .before .before .before .before .before .before .pre .0),
-  holds-kept (c .before .before .before .pass-triangle .kept .1 .0
-      ∙ c .before .before .before .before .before .before .before .before .before .before .loop .inv .long)
-      (org-holds (c .before .before .before .before .before .before .before .before .prev-dart .result)
-      (c .before .before .before .before .before .before .before .origin .result)
-      (c .before .before .before .before .before .before .before .before .before .before .before .before .pre .0)
-      (c .before .before .before .before .before .before .before .origin .ensures .0)),
-  prev-small (c .before .before .before .before .before .before .before .before .before .before .loop .g)
-      (c .before .before .before .before .before .before .before .before .prev-dart .result)
-      (c .before .before .before .before .before .before .before .before .before .before .loop .inv .dart)
-      (c .before .before .before .before .before .before .before .before .prev-dart .ensures),
-)
+enter-frontier-requires c κs =
+    let start : tie.Start Inv-loop μ-loop = search in
+    let at-loop : tie.At-loop Inv-loop μ-loop = search in
+    let after-prev-dart : tie.After-prev-dart Inv-loop μ-loop = search in
+    let after-origin : tie.After-origin Inv-loop μ-loop = search in
+    let after-pass-triangle : tie.After-pass-triangle Inv-loop μ-loop = search in (
+      room-kept (after-pass-triangle .pass-triangle .kept .1 .0
+          ∙ at-loop .loop .inv .long)
+          (start .pre .0),
+      holds-kept (after-pass-triangle .pass-triangle .kept .1 .0
+          ∙ at-loop .loop .inv .long)
+          (org-holds (after-prev-dart .prev-dart .result)
+          (after-origin .origin .result)
+          (start .pre .0)
+          (after-origin .origin .ensures .0)),
+      prev-small (at-loop .loop .g)
+          (after-prev-dart .prev-dart .result)
+          (at-loop .loop .inv .dart)
+          (after-prev-dart .prev-dart .ensures),
+    )
 
 sub-k : tie.Need-sub-k Inv-loop μ-loop
-sub-k c = omega (arith, c .before .before .before .before .before .before .before .before .before .before .before .loop-test .taken)
+sub-k c =
+    let in-loop : tie.In-loop Inv-loop μ-loop = search in
+    omega (arith, in-loop .loop-test .taken)
 
 loop-less : tie.Need-loop-less Inv-loop μ-loop
-loop-less c = omega (arith, c .before .before .before .before .before .before .before .before .before .before .before .loop-test .taken)
+loop-less c =
+    let in-loop : tie.In-loop Inv-loop μ-loop = search in
+    omega (arith, in-loop .loop-test .taken)
 
 loop-again : tie.Need-loop-again Inv-loop μ-loop
 loop-again c = record {
@@ -88,7 +111,9 @@ same-length-2 : tie.Need-same-length-2 Inv-loop μ-loop
 same-length-2 c = c .before .loop .inv .long
 
 returns-2 : tie.Need-returns-2 Inv-loop μ-loop
-returns-2 c = fan-none _ (c .before .before .before .args .right) (c .before .loop .k) (c .before .loop .g) _ _ (c .loop-test .left)
+returns-2 c =
+    let start : tie.Start Inv-loop μ-loop = search in
+    fan-none _ (start .args .right) (c .before .loop .k) (c .before .loop .g) _ _ (c .loop-test .left)
     (c .before .loop .inv .rest)
 
 pub pass-fan-spec : {M : Type 1} → statement M

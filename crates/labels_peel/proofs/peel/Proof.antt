@@ -8,16 +8,21 @@ init-requires : tie.Need-init-requires
 init-requires c κs = search needs
 
 remove-all-requires : tie.Need-remove-all-requires
-remove-all-requires c κs = (
-  room-kept (c .before .before .init .kept .1 .1 .0) (c .before .before .before .before .before .pre .0),
-  wide-kept (c .before .before .init .kept .1 .1 .0) (c .before .before .before .before .before .pre .1),
-)
+remove-all-requires c κs =
+    let start : tie.Start = search in
+    let after-init : tie.After-init = search in (
+      room-kept (after-init .init .kept .1 .1 .0) (start .pre .0),
+      wide-kept (after-init .init .kept .1 .1 .0) (start .pre .1),
+    )
 
 same-length : tie.Need-same-length
 same-length c = search needs
 
 returns : tie.Need-returns
-returns c = stage-is _ (c .before .before .before .before .before .before .before .args .n) _ _ _ (c .before .before .before .before .init .ensures)
+returns c =
+    let start : tie.Start = search in
+    let after-init : tie.After-init = search in
+    stage-is _ (start .args .n) _ _ _ (after-init .init .ensures)
     (c .before .remove-all .ensures)
 
 pub peel-spec : {M : Type 1} → statement M

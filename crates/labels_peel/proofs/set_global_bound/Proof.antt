@@ -15,14 +15,19 @@ add-set-mark : tie.Need-add-set-mark
 add-set-mark c = search needs
 
 set-mark-requires : tie.Need-set-mark-requires
-set-mark-requires c κs = (mark-room (c .before .before .before .pre .0), omega (arith, c .before .get-mark .ensures .1, c .before .before .before .pre .1))
+set-mark-requires c κs =
+    let start : tie.Start = search in
+    (mark-room (start .pre .0), omega (arith, c .before .get-mark .ensures .1, start .pre .1))
 
 same-length : tie.Need-same-length
 same-length c = search needs
 
 returns : tie.Need-returns
-returns c = setRoot-is (c .before .before .before .before .before .args .x) (c .before .before .before .get-mark .result) _ _
-    (c .before .before .before .get-mark .ensures .0) (c .before .set-mark .ensures)
+returns c =
+    let start : tie.Start = search in
+    let after-get-mark : tie.After-get-mark = search in
+    setRoot-is (start .args .x) (after-get-mark .get-mark .result) _ _
+    (after-get-mark .get-mark .ensures .0) (c .before .set-mark .ensures)
 
 pub set-global-bound-spec : {M : Type 1} → statement M
 set-global-bound-spec =

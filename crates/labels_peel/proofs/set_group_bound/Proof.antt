@@ -12,7 +12,9 @@ get-mark-requires : tie.Need-get-mark-requires
 get-mark-requires c κs = search needs
 
 mul-set-mark : tie.Need-mul-set-mark
-mul-set-mark c = omega (arith, c .before .before .before .pre .0 .small)
+mul-set-mark c =
+    let start : tie.Start = search in
+    omega (arith, start .pre .0 .small)
 
 mul-set-mark-2 : tie.Need-mul-set-mark-2
 mul-set-mark-2 c = search needs
@@ -27,14 +29,19 @@ add-set-mark-2 : tie.Need-add-set-mark-2
 add-set-mark-2 c = search needs
 
 set-mark-requires : tie.Need-set-mark-requires
-set-mark-requires c κs = (mark-room (c .before .before .before .pre .0), omega (arith, c .before .get-mark .ensures .1, c .before .before .before .pre .1))
+set-mark-requires c κs =
+    let start : tie.Start = search in
+    (mark-room (start .pre .0), omega (arith, c .before .get-mark .ensures .1, start .pre .1))
 
 same-length : tie.Need-same-length
 same-length c = search needs
 
 returns : tie.Need-returns
-returns c = setTop-is (c .before .before .before .before .before .args .g) (c .before .before .before .before .before .args .x)
-    (c .before .before .before .get-mark .result) _ _ (c .before .before .before .get-mark .ensures .0) (c .before .set-mark .ensures)
+returns c =
+    let start : tie.Start = search in
+    let after-get-mark : tie.After-get-mark = search in
+    setTop-is (start .args .g) (start .args .x)
+    (after-get-mark .get-mark .result) _ _ (after-get-mark .get-mark .ensures .0) (c .before .set-mark .ensures)
 
 pub set-group-bound-spec : {M : Type 1} → statement M
 set-group-bound-spec =

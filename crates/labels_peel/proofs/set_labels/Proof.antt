@@ -30,30 +30,41 @@ dart-word-requires-3 : tie.Need-dart-word-requires-3
 dart-word-requires-3 c κs = search needs
 
 set-op-requires : tie.Need-set-op-requires
-set-op-requires c κs = (
-  rw (c .before .before .before .before .before .before .before .before .before .before .before .next-dart .ensures)
-      (c .before .before .before .before .before .before .before .before .before .before .before .before .pre .following),
-  c .before .before .before .before .before .before .before .dart-word .ensures .1,
-)
+set-op-requires c κs =
+    let start : tie.Start = search in
+    let after-next-dart : tie.After-next-dart = search in
+    let after-dart-word : tie.After-dart-word = search in (
+      rw (after-next-dart .next-dart .ensures)
+          (start .pre .following),
+      after-dart-word .dart-word .ensures .1,
+    )
 
 set-op-requires-2 : tie.Need-set-op-requires-2
-set-op-requires-2 c κs = (
-  rw (c .before .before .before .before .before .before .before .before .before .before .before .before .before .prev-dart .ensures)
-      (tagging-kept (c .before .before .set-op .kept .0)
-      (c .before .before .before .before .before .before .before .before .before .before .before .before .before .before .before .pre) .previous),
-  c .before .before .before .before .before .before .before .dart-word2 .ensures .1,
-)
+set-op-requires-2 c κs =
+    let start : tie.Start = search in
+    let after-prev-dart : tie.After-prev-dart = search in
+    let after-dart-word2 : tie.After-dart-word2 = search in
+    let after-set-op : tie.After-set-op = search in (
+      rw (after-prev-dart .prev-dart .ensures)
+          (tagging-kept (after-set-op .set-op .kept .0)
+          (start .pre) .previous),
+      after-dart-word2 .dart-word2 .ensures .1,
+    )
 
 set-op-requires-3 : tie.Need-set-op-requires-3
-set-op-requires-3 c κs = (
-  omega (
-    arith,
-    c .before .before .set-op2 .kept .0,
-    c .before .before .before .before .before .set-op .kept .0,
-    c .before .before .before .before .before .before .before .before .before .before .before .before .before .before .before .before .before .before .pre .here,
-  ),
-  c .before .before .before .before .before .before .before .dart-word3 .ensures .1,
-)
+set-op-requires-3 c κs =
+    let start : tie.Start = search in
+    let after-dart-word3 : tie.After-dart-word3 = search in
+    let after-set-op : tie.After-set-op = search in
+    let after-set-op2 : tie.After-set-op2 = search in (
+      omega (
+        arith,
+        after-set-op2 .set-op2 .kept .0,
+        after-set-op .set-op .kept .0,
+        start .pre .here,
+      ),
+      after-dart-word3 .dart-word3 .ensures .1,
+    )
 
 same-length : tie.Need-same-length
 same-length c = search needs

@@ -6,7 +6,7 @@ use native.Mathlib.Omega.{arith}
 use lib.ListN.{length}
 use Rattle.scratch_tables.specs.Tables.{tablesOf}
 use Rattle.maps_forward_model.specs.Model.{accumulateAll}
-use Rattle.maps_forward.specs.LoopLaws.{downs-none, downs-more, down-room}
+use Rattle.maps_forward.specs.LoopLaws.{accumulateAll-none, accumulateAll-next, accumulateAll-room}
 use Rattle.maps_forward.proofs.accumulate_all.Statement.{statement}
 use Rattle.maps_forward.proofs.accumulate_all.Tie as tie
 
@@ -18,7 +18,7 @@ abbrev μ-loop : tie.MeasureT-loop
 μ-loop n triangles weights coordinates₀ scratch k₀ coordinates k = n - k
 
 loop-holds : tie.Need-loop-holds Inv-loop μ-loop
-loop-holds c = search (tablesOf, downs-none, needs)
+loop-holds c = search (tablesOf, accumulateAll-none, needs)
 
 accumulate-requires : tie.Need-accumulate-requires Inv-loop μ-loop
 accumulate-requires c κs =
@@ -26,11 +26,11 @@ accumulate-requires c κs =
     let at-loop : tie.At-loop Inv-loop μ-loop = search in
     let in-loop : tie.In-loop Inv-loop μ-loop = search in
     let l = at-loop .loop in
-    down-room _ _ (tablesOf _) _ (l .k) _ _ (l .coordinates) (start .pre .0) (start .pre .1) (in-loop .loop-test .taken) (l .inv .0)
+    accumulateAll-room _ _ (tablesOf _) _ (l .k) _ _ (l .coordinates) (start .pre .0) (start .pre .1) (in-loop .loop-test .taken) (l .inv .0)
     (c .before .removed-vertex .ensures .0)
 
 loop-again : tie.Need-loop-again Inv-loop μ-loop
-loop-again c = search (tablesOf, downs-more, needs)
+loop-again c = search (tablesOf, accumulateAll-next, needs)
 
 returns : tie.Need-returns Inv-loop μ-loop
 returns c =

@@ -1,11 +1,11 @@
 -- `maps_forward::place_corners` meets its contract, from those of `store` and `copy`. Assumes nothing.
-use Rattle.maps_forward.specs.LoopLaws.{cornered-made}
+use Rattle.maps_forward.specs.LoopLaws.{withCorners-made}
 use borrow.Author.Needs.{needs}
 use Rattle.maps_forward.proofs.place_corners.Statement.{statement}
 use Rattle.maps_forward.proofs.place_corners.Tie as tie
 
 returns : tie.Need-returns
-returns c = search cornered-made
+returns c = search withCorners-made
 
 pub place-corners-spec : {M : Type 1} → statement M
 place-corners-spec =

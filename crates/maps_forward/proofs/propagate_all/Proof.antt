@@ -6,7 +6,7 @@ use native.Mathlib.Omega.{arith}
 use lib.ListN.{length}
 use Rattle.scratch_tables.specs.Tables.{tablesOf}
 use Rattle.maps_forward_model.specs.Model.{propagateAll}
-use Rattle.maps_forward.specs.LoopLaws.{ups-none, ups-more, up-room, up-index}
+use Rattle.maps_forward.specs.LoopLaws.{propagateAll-none, propagateAll-next, propagateAll-room, propagate-index}
 use Rattle.maps_forward.proofs.propagate_all.Statement.{statement}
 use Rattle.maps_forward.proofs.propagate_all.Tie as tie
 
@@ -18,7 +18,7 @@ abbrev μ-loop : tie.MeasureT-loop
 μ-loop n triangles coordinates₀ scratch k₀ coordinates k = n - k
 
 loop-holds : tie.Need-loop-holds Inv-loop μ-loop
-loop-holds c = search (tablesOf, ups-none, needs)
+loop-holds c = search (tablesOf, propagateAll-none, needs)
 
 sub-removed-vertex : tie.Need-sub-removed-vertex Inv-loop μ-loop
 sub-removed-vertex c = omega (arith, c .loop-test .taken)
@@ -30,8 +30,8 @@ propagate-requires : tie.Need-propagate-requires Inv-loop μ-loop
 propagate-requires c κs =
     let at-loop : tie.At-loop Inv-loop μ-loop = search in
     let l = at-loop .loop in
-    up-room _ _ (tablesOf _) (l .k) _ _ (l .coordinates) (search) (search) (search) (l .inv .0)
-    (c .before .removed-vertex .ensures .0 ∙ up-index _ (l .k) (tablesOf _) (search))
+    propagateAll-room _ _ (tablesOf _) (l .k) _ _ (l .coordinates) (search) (search) (search) (l .inv .0)
+    (c .before .removed-vertex .ensures .0 ∙ propagate-index _ (l .k) (tablesOf _) (search))
 
 loop-again : tie.Need-loop-again Inv-loop μ-loop
 loop-again c =
@@ -40,8 +40,8 @@ loop-again c =
     let in-loop : tie.In-loop Inv-loop μ-loop = search in
     let after-removed-vertex : tie.After-removed-vertex Inv-loop μ-loop = search in
     let a = start .args in let l = at-loop .loop in (
-      ups-more _ (tablesOf _) (a .n - 2) (l .k) _ _ (l .coordinates) _ (l .inv .0)
-          (after-removed-vertex .removed-vertex .ensures .0 ∙ up-index _ (l .k) (tablesOf _) (search)) (search),
+      propagateAll-next _ (tablesOf _) (a .n - 2) (l .k) _ _ (l .coordinates) _ (l .inv .0)
+          (after-removed-vertex .removed-vertex .ensures .0 ∙ propagate-index _ (l .k) (tablesOf _) (search)) (search),
       omega (arith, c .before .propagate .kept, l .inv .1),
       omega (arith, in-loop .loop-test .taken),
     )

@@ -1,6 +1,6 @@
 -- `maps_forward::write_coordinates` meets its contract: each call asks what the theory of the trace gives, and together they leave what the definition gives.
 -- Assumes nothing.
-use Rattle.maps_forward.specs.LoopLaws.{asks-down, asks-up, asks-thirds, all-written}
+use Rattle.maps_forward.specs.LoopLaws.{asks-accumulate, asks-propagate, asks-thirds, all-written}
 use borrow.Author.Needs.{needs}
 use Rattle.maps_forward.proofs.write_coordinates.Statement.{statement}
 use Rattle.maps_forward.proofs.write_coordinates.Tie as tie
@@ -9,7 +9,7 @@ accumulate-all-requires : tie.Need-accumulate-all-requires
 accumulate-all-requires c κs =
     let start : tie.Start = search in
     let after-clear : tie.After-clear = search in
-    let p = start .pre in asks-down (p .0 .1) (start .args .weights .now) (p .1) (p .2) (start .args .coordinates .now) (p .3) (after-clear .clear .last .0)
+    let p = start .pre in asks-accumulate (p .0 .1) (start .args .weights .now) (p .1) (p .2) (start .args .coordinates .now) (p .3) (after-clear .clear .last .0)
     (after-clear .clear .ensures)
 
 propagate-all-requires : tie.Need-propagate-all-requires
@@ -18,7 +18,7 @@ propagate-all-requires c κs =
     let after-clear : tie.After-clear = search in
     let after-down : tie.After-accumulate-all = search in
     let after-place-corners : tie.After-place-corners = search in
-    let p = start .pre in asks-up (p .0 .1) (start .args .weights .now) (p .1) (p .2) (start .args .coordinates .now) (p .3) (after-clear .clear .last .0)
+    let p = start .pre in asks-propagate (p .0 .1) (start .args .weights .now) (p .1) (p .2) (start .args .coordinates .now) (p .3) (after-clear .clear .last .0)
     (after-clear .clear .ensures)
     (after-down .accumulate-all .last .1 .1 .1 .0) (after-place-corners .place-corners .last .1 .0) (after-down .accumulate-all .ensures)
     (after-place-corners .place-corners .ensures)

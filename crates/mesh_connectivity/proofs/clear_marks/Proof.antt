@@ -15,34 +15,46 @@ loop-holds : tie.Need-loop-holds Inv-loop μ-loop
 loop-holds c = (wiping-start (c .args .s .now), omega arith)
 
 set-mark-requires : tie.Need-set-mark-requires Inv-loop μ-loop
-set-mark-requires c κs = (
-  omega (
-    arith,
-    c .before .before .before .pre .at (c .before .before .loop .t) (c .before .loop-test .taken),
-    c .before .before .loop .inv .0 .long,
-  ),
-  omega arith,
-)
+set-mark-requires c κs =
+    let start : tie.Start Inv-loop μ-loop = search in
+    let at-loop : tie.At-loop Inv-loop μ-loop = search in (
+      omega (
+        arith,
+        start .pre .at (at-loop .loop .t) (c .before .loop-test .taken),
+        at-loop .loop .inv .0 .long,
+      ),
+      omega arith,
+    )
 
 add-t : tie.Need-add-t Inv-loop μ-loop
-add-t c = omega (arith, c .before .before .before .loop-test .taken, c .before .before .before .before .before .fits .m)
+add-t c =
+    let start : tie.Start Inv-loop μ-loop = search in
+    let in-loop : tie.In-loop Inv-loop μ-loop = search in
+    omega (arith, in-loop .loop-test .taken, start .fits .m)
 
 loop-less : tie.Need-loop-less Inv-loop μ-loop
-loop-less c = omega (arith, c .before .before .before .loop-test .taken)
+loop-less c =
+    let in-loop : tie.In-loop Inv-loop μ-loop = search in
+    omega (arith, in-loop .loop-test .taken)
 
 loop-again : tie.Need-loop-again Inv-loop μ-loop
-loop-again c = (
-  wiping-next (c .before .before .before .before .before .args .s .now) (c .before .before .before .before .loop .s) (c .before .set-mark .last .0)
-      (c .before .before .before .before .loop .t) (c .before .set-mark .kept .0) (c .before .set-mark .ensures)
-      (c .before .before .before .before .loop .inv .0),
-  omega (arith, c .before .before .before .loop-test .taken),
-)
+loop-again c =
+    let start : tie.Start Inv-loop μ-loop = search in
+    let at-loop : tie.At-loop Inv-loop μ-loop = search in
+    let in-loop : tie.In-loop Inv-loop μ-loop = search in (
+      wiping-next (start .args .s .now) (at-loop .loop .s) (c .before .set-mark .last .0)
+          (at-loop .loop .t) (c .before .set-mark .kept .0) (c .before .set-mark .ensures)
+          (at-loop .loop .inv .0),
+      omega (arith, in-loop .loop-test .taken),
+    )
 
 same-length : tie.Need-same-length Inv-loop μ-loop
 same-length c = c .before .loop .inv .0 .long
 
 returns : tie.Need-returns Inv-loop μ-loop
-returns c = wiping-all (c .before .before .args .s .now) (c .before .loop .s) (c .before .loop .t) (c .before .before .args .m) (c .before .loop .inv .1)
+returns c =
+    let start : tie.Start Inv-loop μ-loop = search in
+    wiping-all (start .args .s .now) (c .before .loop .s) (c .before .loop .t) (start .args .m) (c .before .loop .inv .1)
     (c .loop-test .left) (c .before .loop .inv .0)
 
 pub clear-marks-spec : {M : Type 1} → statement M

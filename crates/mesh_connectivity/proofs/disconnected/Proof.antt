@@ -10,18 +10,24 @@ clear-marks-requires : tie.Need-clear-marks-requires
 clear-marks-requires c κs = search needs
 
 set-mark-requires : tie.Need-set-mark-requires
-set-mark-requires c κs = (
-  omega (
-    arith,
-    c .before .before .before .before .pre .0 .at 0 (c .before .before .before .before .pre .1),
-    c .before .before .clear-marks .kept .0,
-  ),
-  omega arith,
-)
+set-mark-requires c κs =
+    let start : tie.Start = search in
+    let after-clear-marks : tie.After-clear-marks = search in (
+      omega (
+        arith,
+        start .pre .0 .at 0 (start .pre .1),
+        after-clear-marks .clear-marks .kept .0,
+      ),
+      omega arith,
+    )
 
 flood-fill-requires : tie.Need-flood-fill-requires
-flood-fill-requires c κs = marks-same (c .before .before .before .before .before .before .before .args .m) (c .before .before .set-mark .kept .0
-    ∙ c .before .before .before .before .before .clear-marks .kept .0) (c .before .before .before .before .before .before .before .pre .0)
+flood-fill-requires c κs =
+    let start : tie.Start = search in
+    let after-clear-marks : tie.After-clear-marks = search in
+    let after-set-mark : tie.After-set-mark = search in
+    marks-same (start .args .m) (after-set-mark .set-mark .kept .0
+    ∙ after-clear-marks .clear-marks .kept .0) (start .pre .0)
 
 some-unmarked-requires : tie.Need-some-unmarked-requires
 some-unmarked-requires c κs = search needs
@@ -31,12 +37,16 @@ same-length c = search needs
 
 returns : tie.Need-returns
 returns c =
-    split (c .before .before .before .before .before .before .before .before .before .before .before .args .m)
-    (c .before .before .before .before .before .before .before .before .before .before .before .args .s .now)
-    (c .before .before .before .before .before .before .before .before .before .clear-marks .last .0)
-    (c .before .before .before .before .before .before .set-mark .last .0) (c .before .before .before .flood-fill .last .0) (c .some-unmarked .result)
-    (c .before .before .before .before .before .before .before .before .before .clear-marks .ensures)
-    (c .before .before .before .before .before .before .set-mark .ensures) (c .before .before .before .flood-fill .ensures) (c .some-unmarked .ensures)
+    let start : tie.Start = search in
+    let after-clear-marks : tie.After-clear-marks = search in
+    let after-set-mark : tie.After-set-mark = search in
+    let after-flood-fill : tie.After-flood-fill = search in
+    split (start .args .m)
+    (start .args .s .now)
+    (after-clear-marks .clear-marks .last .0)
+    (after-set-mark .set-mark .last .0) (after-flood-fill .flood-fill .last .0) (c .some-unmarked .result)
+    (after-clear-marks .clear-marks .ensures)
+    (after-set-mark .set-mark .ensures) (after-flood-fill .flood-fill .ensures) (c .some-unmarked .ensures)
 
 pub disconnected-spec : {M : Type 1} → statement M
 disconnected-spec =

@@ -15,38 +15,56 @@ loop-holds : tie.Need-loop-holds Inv-loop μ-loop
 loop-holds c = exploring-start (c .args .m) (c .args .s .now)
 
 same-length : tie.Need-same-length Inv-loop μ-loop
-same-length c = c .before .before .loop .inv .long
+same-length c =
+    let at-loop : tie.At-loop Inv-loop μ-loop = search in
+    at-loop .loop .inv .long
 
 returns : tie.Need-returns Inv-loop μ-loop
-returns c = explored-empty (c .before .before .before .args .m) (c .before .before .before .args .s .now) (c .before .before .loop .s)
-    (c .before .before .loop .top) (c .before .before .loop .i) (c .before .loop-test .taken) (c .if1 .taken) (c .before .before .loop .inv)
+returns c =
+    let start : tie.Start Inv-loop μ-loop = search in
+    let at-loop : tie.At-loop Inv-loop μ-loop = search in
+    explored-empty (start .args .m) (start .args .s .now) (at-loop .loop .s)
+    (at-loop .loop .top) (at-loop .loop .i) (c .before .loop-test .taken) (c .if1 .taken) (at-loop .loop .inv)
 
 pop-triangle-requires : tie.Need-pop-triangle-requires Inv-loop μ-loop
-pop-triangle-requires c κs = (
-  marks-same (c .before .before .before .before .args .m) (c .before .before .before .loop .inv .long) (c .before .before .before .before .pre),
-  omega (arith, c .before .if1 .left),
-  c .before .before .before .loop .inv .small,
-)
+pop-triangle-requires c κs =
+    let start : tie.Start Inv-loop μ-loop = search in
+    let at-loop : tie.At-loop Inv-loop μ-loop = search in (
+      marks-same (start .args .m) (at-loop .loop .inv .long) (start .pre),
+      omega (arith, c .before .if1 .left),
+      at-loop .loop .inv .small,
+    )
 
 add-i : tie.Need-add-i Inv-loop μ-loop
-add-i c = omega (arith, c .before .before .before .before .loop-test .taken, c .before .before .before .before .before .before .fits .m)
+add-i c =
+    let start : tie.Start Inv-loop μ-loop = search in
+    let in-loop : tie.In-loop Inv-loop μ-loop = search in
+    omega (arith, in-loop .loop-test .taken, start .fits .m)
 
 loop-less : tie.Need-loop-less Inv-loop μ-loop
-loop-less c = omega (arith, c .before .before .before .before .loop-test .taken)
+loop-less c =
+    let in-loop : tie.In-loop Inv-loop μ-loop = search in
+    omega (arith, in-loop .loop-test .taken)
 
 loop-again : tie.Need-loop-again Inv-loop μ-loop
 loop-again c =
-    exploring-next (c .before .before .before .before .before .before .args .m) (c .before .before .before .before .before .before .args .s .now)
-    (c .before .before .before .before .before .loop .s) (c .before .pop-triangle .last .0) (c .before .before .before .before .before .loop .top)
-    (c .before .pop-triangle .result) (c .before .before .before .before .before .loop .i)
-    (c .before .before .before .before .loop-test .taken) (c .before .before .before .if1 .left) (c .before .pop-triangle .kept .0)
-    (c .before .pop-triangle .ensures .0) (c .before .pop-triangle .ensures .1) (c .before .before .before .before .before .loop .inv)
+    let start : tie.Start Inv-loop μ-loop = search in
+    let at-loop : tie.At-loop Inv-loop μ-loop = search in
+    let in-loop : tie.In-loop Inv-loop μ-loop = search in
+    let else1 : tie.Else1 Inv-loop μ-loop = search in
+    exploring-next (start .args .m) (start .args .s .now)
+    (at-loop .loop .s) (c .before .pop-triangle .last .0) (at-loop .loop .top)
+    (c .before .pop-triangle .result) (at-loop .loop .i)
+    (in-loop .loop-test .taken) (else1 .if1 .left) (c .before .pop-triangle .kept .0)
+    (c .before .pop-triangle .ensures .0) (c .before .pop-triangle .ensures .1) (at-loop .loop .inv)
 
 same-length-2 : tie.Need-same-length-2 Inv-loop μ-loop
 same-length-2 c = c .before .loop .inv .long
 
 returns-2 : tie.Need-returns-2 Inv-loop μ-loop
-returns-2 c = explored-all (c .before .before .args .m) (c .before .before .args .s .now) (c .before .loop .s) (c .before .loop .top) (c .before .loop .i)
+returns-2 c =
+    let start : tie.Start Inv-loop μ-loop = search in
+    explored-all (start .args .m) (start .args .s .now) (c .before .loop .s) (c .before .loop .top) (c .before .loop .i)
     (c .loop-test .left) (c .before .loop .inv)
 
 pub flood-fill-spec : {M : Type 1} → statement M

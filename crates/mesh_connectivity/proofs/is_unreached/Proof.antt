@@ -9,7 +9,9 @@ get-mark-requires : tie.Need-get-mark-requires
 get-mark-requires c κs = search needs
 
 returns : tie.Need-returns
-returns c = new-within (c .before .before .args .m) (c .before .before .args .t) (c .get-mark .result) (tablesOf (c .before .before .args .s .now) .mark)
+returns c =
+    let start : tie.Start = search in
+    new-within (start .args .m) (start .args .t) (c .get-mark .result) (tablesOf (start .args .s .now) .mark)
     (c .before .if1 .taken) (c .get-mark .ensures .0)
 
 returns-2 : tie.Need-returns-2

@@ -29,11 +29,13 @@ add-push-neighbour : tie.Need-add-push-neighbour
 add-push-neighbour c = search needs
 
 push-neighbour-requires-2 : tie.Need-push-neighbour-requires-2
-push-neighbour-requires-2 c κs = (
-  marks-same (c .before .before .before .before .before .before .before .before .args .m) (c .before .before .push-neighbour .kept .0)
-      (c .before .before .before .before .before .before .before .before .pre .0),
-  c .before .before .push-neighbour .ensures .1,
-)
+push-neighbour-requires-2 c κs =
+    let start : tie.Start = search in
+    let after-push-neighbour : tie.After-push-neighbour = search in (
+      marks-same (start .args .m) (after-push-neighbour .push-neighbour .kept .0)
+          (start .pre .0),
+      after-push-neighbour .push-neighbour .ensures .1,
+    )
 
 mul-push-neighbour-3 : tie.Need-mul-push-neighbour-3
 mul-push-neighbour-3 c = search needs
@@ -42,35 +44,44 @@ add-push-neighbour-2 : tie.Need-add-push-neighbour-2
 add-push-neighbour-2 c = search needs
 
 push-neighbour-requires-3 : tie.Need-push-neighbour-requires-3
-push-neighbour-requires-3 c κs = (
-  marks-same (c .before .before .before .before .before .before .before .before .before .before .before .args .m)
-      (c .before .before .push-neighbour2 .kept .0 ∙ c .before .before .before .before .before .push-neighbour .kept .0)
-      (c .before .before .before .before .before .before .before .before .before .before .before .pre .0),
-  c .before .before .push-neighbour2 .ensures .1,
-)
+push-neighbour-requires-3 c κs =
+    let start : tie.Start = search in
+    let after-push-neighbour : tie.After-push-neighbour = search in
+    let after-push-neighbour2 : tie.After-push-neighbour2 = search in (
+      marks-same (start .args .m)
+          (after-push-neighbour2 .push-neighbour2 .kept .0 ∙ after-push-neighbour .push-neighbour .kept .0)
+          (start .pre .0),
+      after-push-neighbour2 .push-neighbour2 .ensures .1,
+    )
 
 same-length : tie.Need-same-length
 same-length c = search needs
 
 returns : tie.Need-returns
-returns c = (
-  moved-leave (c .before .before .before .before .before .before .before .before .before .before .before .before .before .args .s .now)
-      (c .before .before .before .before .before .before .before .push-neighbour .last .0) (c .before .before .before .before .push-neighbour2 .last .0)
-      (c .before .push-neighbour3 .last .0)
-      (c .before .before .before .before .before .before .before .before .before .before .before .before .before .args .m)
-      (c .before .before .before .before .before .before .before .before .before .before .before .before .before .args .top - 1)
-      (c .before .before .before .before .before .before .before .before .before .before .before .before .before .args .top)
-      (c .before .before .before .before .before .before .before .before .before .saturating-sub .result)
-      (c .before .before .before .before .before .before .before .push-neighbour .result) (c .before .before .before .before .push-neighbour2 .result)
-      (c .before .push-neighbour3 .result)
-      (c .before .before .before .before .before .before .before .before .before .before .before .before .before .pre .1) refl
-      (c .before .before .before .before .before .before .before .before .before .before .before .before .if1 .taken)
-      (c .before .before .before .before .before .before .before .before .before .saturating-sub .ensures .0
-      ∙ ap (λ x. x - 1) (c .before .before .before .before .before .before .before .before .before .before .get-mark .ensures .0))
-      (c .before .before .before .before .before .before .before .push-neighbour .ensures .0) (c .before .before .before .before .push-neighbour2 .ensures .0)
-      (c .before .push-neighbour3 .ensures .0),
-  c .before .push-neighbour3 .ensures .1,
-)
+returns c =
+    let start : tie.Start = search in
+    let then1 : tie.Then1 = search in
+    let after-get-mark : tie.After-get-mark = search in
+    let after-saturating-sub : tie.After-saturating-sub = search in
+    let after-push-neighbour : tie.After-push-neighbour = search in
+    let after-push-neighbour2 : tie.After-push-neighbour2 = search in (
+      moved-leave (start .args .s .now)
+          (after-push-neighbour .push-neighbour .last .0) (after-push-neighbour2 .push-neighbour2 .last .0)
+          (c .before .push-neighbour3 .last .0)
+          (start .args .m)
+          (start .args .top - 1)
+          (start .args .top)
+          (after-saturating-sub .saturating-sub .result)
+          (after-push-neighbour .push-neighbour .result) (after-push-neighbour2 .push-neighbour2 .result)
+          (c .before .push-neighbour3 .result)
+          (start .pre .1) refl
+          (then1 .if1 .taken)
+          (after-saturating-sub .saturating-sub .ensures .0
+          ∙ ap (λ x. x - 1) (after-get-mark .get-mark .ensures .0))
+          (after-push-neighbour .push-neighbour .ensures .0) (after-push-neighbour2 .push-neighbour2 .ensures .0)
+          (c .before .push-neighbour3 .ensures .0),
+      c .before .push-neighbour3 .ensures .1,
+    )
 
 returns-2 : tie.Need-returns-2
 returns-2 c = (moved-out (c .before .args .s .now) (c .before .args .m) (c .before .args .top - 1) (c .before .args .top) refl (c .if1 .left), omega arith)

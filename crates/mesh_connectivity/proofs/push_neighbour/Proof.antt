@@ -20,11 +20,14 @@ add-set-mark c = search needs
 
 set-mark-requires : tie.Need-set-mark-requires
 set-mark-requires c κs =
-    let low = new-below (c .before .before .before .before .before .before .args .m) (c .before .before .before .before .get-op .result / 3)
-    (tablesOf (c .before .before .before .before .before .before .args .s .now) .mark) (c .before .before .is-unreached .result)
-    (c .before .before .is-unreached .ensures) (c .before .if1 .taken) in (
-      c .before .before .before .before .before .before .pre .0 .at (c .before .before .before .before .get-op .result / 3) low,
-      c .before .before .before .before .before .before .pre .1,
+    let start : tie.Start = search in
+    let after-get-op : tie.After-get-op = search in
+    let after-is-unreached : tie.After-is-unreached = search in
+    let low = new-below (start .args .m) (after-get-op .get-op .result / 3)
+    (tablesOf (start .args .s .now) .mark) (after-is-unreached .is-unreached .result)
+    (after-is-unreached .is-unreached .ensures) (c .before .if1 .taken) in (
+      start .pre .0 .at (after-get-op .get-op .result / 3) low,
+      start .pre .1,
     )
 
 add-result : tie.Need-add-result
@@ -36,18 +39,22 @@ same-length c = search needs
 returns : tie.Need-returns
 unfolding tri
 returns c =
-    let low = new-below (c .before .before .before .before .before .before .before .before .args .m)
-    (c .before .before .before .before .before .before .get-op .result / 3)
-    (tablesOf (c .before .before .before .before .before .before .before .before .args .s .now) .mark)
-    (c .before .before .before .before .is-unreached .result) (c .before .before .before .before .is-unreached .ensures)
-    (c .before .before .before .if1 .taken) in (
-      moved-new (c .before .before .before .before .before .before .before .before .args .s .now) (c .before .set-mark .last .0)
-          (c .before .before .before .before .before .before .before .before .args .m)
-          (c .before .before .before .before .before .before .before .before .args .d) (c .before .before .before .before .before .before .get-op .result / 3)
-          (c .before .before .before .before .before .before .before .before .args .top) (c .before .before .before .before .is-unreached .result)
-          (ap tri (c .before .before .before .before .before .before .get-op .ensures .0)) (c .before .before .before .before .is-unreached .ensures)
-          (c .before .before .before .if1 .taken) (c .before .set-mark .ensures),
-      omega (arith, low, c .before .before .before .before .before .before .before .before .pre .0 .few),
+    let start : tie.Start = search in
+    let after-get-op : tie.After-get-op = search in
+    let after-is-unreached : tie.After-is-unreached = search in
+    let then1 : tie.Then1 = search in
+    let low = new-below (start .args .m)
+    (after-get-op .get-op .result / 3)
+    (tablesOf (start .args .s .now) .mark)
+    (after-is-unreached .is-unreached .result) (after-is-unreached .is-unreached .ensures)
+    (then1 .if1 .taken) in (
+      moved-new (start .args .s .now) (c .before .set-mark .last .0)
+          (start .args .m)
+          (start .args .d) (after-get-op .get-op .result / 3)
+          (start .args .top) (after-is-unreached .is-unreached .result)
+          (ap tri (after-get-op .get-op .ensures .0)) (after-is-unreached .is-unreached .ensures)
+          (then1 .if1 .taken) (c .before .set-mark .ensures),
+      omega (arith, low, start .pre .0 .few),
     )
 
 same-length-2 : tie.Need-same-length-2
@@ -55,13 +62,15 @@ same-length-2 c = search needs
 
 returns-2 : tie.Need-returns-2
 unfolding tri
-returns-2 c = (
-  moved-old (c .before .before .before .before .before .args .s .now) (c .before .before .before .before .before .args .m)
-      (c .before .before .before .before .before .args .d) (c .before .before .before .get-op .result / 3)
-      (c .before .before .before .before .before .args .top) (c .before .is-unreached .result)
-      (ap tri (c .before .before .before .get-op .ensures .0)) (c .before .is-unreached .ensures) (c .if1 .left),
-  c .before .before .before .before .before .pre .1,
-)
+returns-2 c =
+    let start : tie.Start = search in
+    let after-get-op : tie.After-get-op = search in (
+      moved-old (start .args .s .now) (start .args .m)
+          (start .args .d) (after-get-op .get-op .result / 3)
+          (start .args .top) (c .before .is-unreached .result)
+          (ap tri (after-get-op .get-op .ensures .0)) (c .before .is-unreached .ensures) (c .if1 .left),
+      start .pre .1,
+    )
 
 pub push-neighbour-spec : {M : Type 1} → statement M
 push-neighbour-spec =

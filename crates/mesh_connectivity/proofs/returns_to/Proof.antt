@@ -24,29 +24,44 @@ get-op-requires c κs = tt
 
 returns : tie.Need-returns Inv-loop μ-loop
 returns c =
-    let op = tablesOf (c .before .before .before .before .before .args .s .now) .op in
-    rotating-back op (c .before .before .before .before .before .args .h) (c .before .before .before .before .before .args .k)
-    (c .before .before .before .before .loop .d) (c .before .get-op .result) (c .before .before .before .before .loop .i)
-    (c .before .before .before .loop-test .taken)
-    (c .before .get-op .ensures .0 ∙ ap op (c .before .before .prev-dart .ensures)) (c .if1 .taken) (c .before .before .before .before .loop .inv)
+    let start : tie.Start Inv-loop μ-loop = search in
+    let at-loop : tie.At-loop Inv-loop μ-loop = search in
+    let in-loop : tie.In-loop Inv-loop μ-loop = search in
+    let after-prev-dart : tie.After-prev-dart Inv-loop μ-loop = search in
+    let op = tablesOf (start .args .s .now) .op in
+    rotating-back op (start .args .h) (start .args .k)
+    (at-loop .loop .d) (c .before .get-op .result) (at-loop .loop .i)
+    (in-loop .loop-test .taken)
+    (c .before .get-op .ensures .0 ∙ ap op (after-prev-dart .prev-dart .ensures)) (c .if1 .taken) (at-loop .loop .inv)
 
 add-i : tie.Need-add-i Inv-loop μ-loop
-add-i c = omega (arith, c .before .before .before .loop-test .taken, c .before .before .before .before .before .fits .k)
+add-i c =
+    let start : tie.Start Inv-loop μ-loop = search in
+    let in-loop : tie.In-loop Inv-loop μ-loop = search in
+    omega (arith, in-loop .loop-test .taken, start .fits .k)
 
 loop-less : tie.Need-loop-less Inv-loop μ-loop
-loop-less c = omega (arith, c .before .before .before .loop-test .taken)
+loop-less c =
+    let in-loop : tie.In-loop Inv-loop μ-loop = search in
+    omega (arith, in-loop .loop-test .taken)
 
 loop-again : tie.Need-loop-again Inv-loop μ-loop
 loop-again c =
-    let op = tablesOf (c .before .before .before .before .before .args .s .now) .op in
-    rotating-next op (c .before .before .before .before .before .args .h) (c .before .before .before .before .before .args .k)
-    (c .before .before .before .before .loop .d) (c .before .get-op .result) (c .before .before .before .before .loop .i)
-    (c .before .before .before .loop-test .taken)
-    (c .before .get-op .ensures .0 ∙ ap op (c .before .before .prev-dart .ensures)) (c .if1 .left) (c .before .get-op .ensures .1)
-    (c .before .before .before .before .loop .inv)
+    let start : tie.Start Inv-loop μ-loop = search in
+    let at-loop : tie.At-loop Inv-loop μ-loop = search in
+    let in-loop : tie.In-loop Inv-loop μ-loop = search in
+    let after-prev-dart : tie.After-prev-dart Inv-loop μ-loop = search in
+    let op = tablesOf (start .args .s .now) .op in
+    rotating-next op (start .args .h) (start .args .k)
+    (at-loop .loop .d) (c .before .get-op .result) (at-loop .loop .i)
+    (in-loop .loop-test .taken)
+    (c .before .get-op .ensures .0 ∙ ap op (after-prev-dart .prev-dart .ensures)) (c .if1 .left) (c .before .get-op .ensures .1)
+    (at-loop .loop .inv)
 
 returns-2 : tie.Need-returns-2 Inv-loop μ-loop
-returns-2 c = rotating-none (tablesOf (c .before .before .args .s .now) .op) (c .before .before .args .h) (c .before .before .args .k) (c .before .loop .d)
+returns-2 c =
+    let start : tie.Start Inv-loop μ-loop = search in
+    rotating-none (tablesOf (start .args .s .now) .op) (start .args .h) (start .args .k) (c .before .loop .d)
     (c .before .loop .i) (c .loop-test .left) (c .before .loop .inv)
 
 pub returns-to-spec : {M : Type 1} → statement M

@@ -10,7 +10,9 @@ get-count-requires : tie.Need-get-count-requires
 get-count-requires c κs = search needs
 
 returns : tie.Need-returns
-returns c = broken-none (tablesOf (c .before .before .args .s .now)) (c .before .before .args .v) (c .before .get-count .result)
+returns c =
+    let start : tie.Start = search in
+    broken-none (tablesOf (start .args .s .now)) (start .args .v) (c .before .get-count .result)
     (c .before .get-count .ensures .0) (c .if1 .taken)
 
 get-head-requires : tie.Need-get-head-requires
@@ -24,9 +26,12 @@ returns-to-requires c κs = search needs
 
 returns-2 : tie.Need-returns-2
 returns-2 c =
-    c .returns-to .ensures ∙ broken-some (tablesOf (c .before .before .before .before .args .s .now)) (c .before .before .before .before .args .v)
-    (c .before .before .before .get-count .result) (c .before .get-head .result)
-    (c .before .before .before .get-count .ensures .0) (c .before .before .if1 .left) (c .before .get-head .ensures .0)
+    let start : tie.Start = search in
+    let after-get-count : tie.After-get-count = search in
+    let else1 : tie.Else1 = search in
+    c .returns-to .ensures ∙ broken-some (tablesOf (start .args .s .now)) (start .args .v)
+    (after-get-count .get-count .result) (c .before .get-head .result)
+    (after-get-count .get-count .ensures .0) (else1 .if1 .left) (c .before .get-head .ensures .0)
 
 pub ring-broken-spec : {M : Type 1} → statement M
 ring-broken-spec =

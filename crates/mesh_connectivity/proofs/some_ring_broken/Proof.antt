@@ -21,24 +21,37 @@ ring-broken-requires c κs = tt
 
 returns : tie.Need-returns Inv-loop μ-loop
 returns c =
-    testing-found (tablesOf (c .before .before .before .before .args .s .now)) (c .before .before .before .before .args .n)
-    (c .before .before .before .loop .v) (c .before .before .loop-test .taken)
-    (sym (c .before .ring-broken .ensures) ∙ c .if1 .taken) (c .before .before .before .loop .inv)
+    let start : tie.Start Inv-loop μ-loop = search in
+    let at-loop : tie.At-loop Inv-loop μ-loop = search in
+    let in-loop : tie.In-loop Inv-loop μ-loop = search in
+    testing-found (tablesOf (start .args .s .now)) (start .args .n)
+    (at-loop .loop .v) (in-loop .loop-test .taken)
+    (sym (c .before .ring-broken .ensures) ∙ c .if1 .taken) (at-loop .loop .inv)
 
 add-v : tie.Need-add-v Inv-loop μ-loop
-add-v c = omega (arith, c .before .before .loop-test .taken, c .before .before .before .before .fits .n)
+add-v c =
+    let start : tie.Start Inv-loop μ-loop = search in
+    let in-loop : tie.In-loop Inv-loop μ-loop = search in
+    omega (arith, in-loop .loop-test .taken, start .fits .n)
 
 loop-less : tie.Need-loop-less Inv-loop μ-loop
-loop-less c = omega (arith, c .before .before .loop-test .taken)
+loop-less c =
+    let in-loop : tie.In-loop Inv-loop μ-loop = search in
+    omega (arith, in-loop .loop-test .taken)
 
 loop-again : tie.Need-loop-again Inv-loop μ-loop
 loop-again c =
-    testing-next (tablesOf (c .before .before .before .before .args .s .now)) (c .before .before .before .before .args .n)
-    (c .before .before .before .loop .v) (c .before .before .loop-test .taken)
-    (sym (c .before .ring-broken .ensures) ∙ c .if1 .left) (c .before .before .before .loop .inv)
+    let start : tie.Start Inv-loop μ-loop = search in
+    let at-loop : tie.At-loop Inv-loop μ-loop = search in
+    let in-loop : tie.In-loop Inv-loop μ-loop = search in
+    testing-next (tablesOf (start .args .s .now)) (start .args .n)
+    (at-loop .loop .v) (in-loop .loop-test .taken)
+    (sym (c .before .ring-broken .ensures) ∙ c .if1 .left) (at-loop .loop .inv)
 
 returns-2 : tie.Need-returns-2 Inv-loop μ-loop
-returns-2 c = testing-none (tablesOf (c .before .before .args .s .now)) (c .before .before .args .n) (c .before .loop .v) (c .loop-test .left)
+returns-2 c =
+    let start : tie.Start Inv-loop μ-loop = search in
+    testing-none (tablesOf (start .args .s .now)) (start .args .n) (c .before .loop .v) (c .loop-test .left)
     (c .before .loop .inv)
 
 pub some-ring-broken-spec : {M : Type 1} → statement M

@@ -24,28 +24,41 @@ get-mark-requires c κs = tt
 
 returns : tie.Need-returns Inv-loop μ-loop
 returns c =
-    let f = tablesOf (c .before .before .before .before .args .s .now) .mark in
-    let t = c .before .before .before .loop .t in
+    let start : tie.Start Inv-loop μ-loop = search in
+    let at-loop : tie.At-loop Inv-loop μ-loop = search in
+    let in-loop : tie.In-loop Inv-loop μ-loop = search in
+    let f = tablesOf (start .args .s .now) .mark in
+    let t = at-loop .loop .t in
     let h : eqb (f t) 0 ≡ true = eq-eqb (f t) 0 (sym (c .before .get-mark .ensures .0) ∙ c .if1 .taken) in
-    seeking-found (λ i. eqb (f i) 0) (c .before .before .before .before .args .m) t (c .before .before .loop-test .taken) h
-    (c .before .before .before .loop .inv)
+    seeking-found (λ i. eqb (f i) 0) (start .args .m) t (in-loop .loop-test .taken) h
+    (at-loop .loop .inv)
 
 add-t : tie.Need-add-t Inv-loop μ-loop
-add-t c = omega (arith, c .before .before .loop-test .taken, c .before .before .before .before .fits .m)
+add-t c =
+    let start : tie.Start Inv-loop μ-loop = search in
+    let in-loop : tie.In-loop Inv-loop μ-loop = search in
+    omega (arith, in-loop .loop-test .taken, start .fits .m)
 
 loop-less : tie.Need-loop-less Inv-loop μ-loop
-loop-less c = omega (arith, c .before .before .loop-test .taken)
+loop-less c =
+    let in-loop : tie.In-loop Inv-loop μ-loop = search in
+    omega (arith, in-loop .loop-test .taken)
 
 loop-again : tie.Need-loop-again Inv-loop μ-loop
 loop-again c =
-    let f = tablesOf (c .before .before .before .before .args .s .now) .mark in
-    let t = c .before .before .before .loop .t in
+    let start : tie.Start Inv-loop μ-loop = search in
+    let at-loop : tie.At-loop Inv-loop μ-loop = search in
+    let in-loop : tie.In-loop Inv-loop μ-loop = search in
+    let f = tablesOf (start .args .s .now) .mark in
+    let t = at-loop .loop .t in
     let h : eqb (f t) 0 ≡ false = ne-eqb (f t) 0 (λ q. c .if1 .left (c .before .get-mark .ensures .0 ∙ q)) in
-    seeking-next (λ i. eqb (f i) 0) (c .before .before .before .before .args .m) t (c .before .before .loop-test .taken) h
-    (c .before .before .before .loop .inv)
+    seeking-next (λ i. eqb (f i) 0) (start .args .m) t (in-loop .loop-test .taken) h
+    (at-loop .loop .inv)
 
 returns-2 : tie.Need-returns-2 Inv-loop μ-loop
-returns-2 c = seeking-end (λ i. eqb (tablesOf (c .before .before .args .s .now) .mark i) 0) (c .before .before .args .m) (c .before .loop .t)
+returns-2 c =
+    let start : tie.Start Inv-loop μ-loop = search in
+    seeking-end (λ i. eqb (tablesOf (start .args .s .now) .mark i) 0) (start .args .m) (c .before .loop .t)
     (c .loop-test .left) (c .before .loop .inv)
 
 pub some-unmarked-spec : {M : Type 1} → statement M

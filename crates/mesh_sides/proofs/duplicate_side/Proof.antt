@@ -19,53 +19,71 @@ loop-holds c = scanning-start (c .before .args .triangles .now) (c .before .args
 
 mark-outgoing-requires : tie.Need-mark-outgoing-requires Inv-loop μ-loop
 mark-outgoing-requires c κs =
-    let R = c .before .before .before .before .pre in
-    let s = c .before .before .loop .s in
-    let v = c .before .before .loop .v in
-    let I = c .before .before .loop .inv in (
+    let start : tie.Start Inv-loop μ-loop = search in
+    let at-loop : tie.At-loop Inv-loop μ-loop = search in
+    let R = start .pre in
+    let s = at-loop .loop .s in
+    let v = at-loop .loop .v in
+    let I = at-loop .loop .inv in (
       ready-at s v R (c .before .loop-test .taken) (I .long),
-      rw (mark-heads (c .before .before .before .before .args .s .now) s (tablesOf s .mark) (I .same)) (R .heads v),
+      rw (mark-heads (start .args .s .now) s (tablesOf s .mark) (I .same)) (R .heads v),
     )
 
 same-length : tie.Need-same-length Inv-loop μ-loop
-same-length c = c .before .before .mark-outgoing .kept .1 .0 ∙ c .before .before .before .before .before .loop .inv .long
+same-length c =
+    let at-loop : tie.At-loop Inv-loop μ-loop = search in
+    let after-mark-outgoing : tie.After-mark-outgoing Inv-loop μ-loop = search in
+    after-mark-outgoing .mark-outgoing .kept .1 .0 ∙ at-loop .loop .inv .long
 
 returns : tie.Need-returns Inv-loop μ-loop
 returns c =
-    let M = marked-as (c .before .before .before .before .before .before .before .args .triangles .now) (c .before .before .before .before .before .loop .s)
-    (c .before .before .mark-outgoing .last .1 .0) (c .before .before .before .before .before .loop .v) (c .before .before .mark-outgoing .result)
-    (c .if1 .taken) (c .before .before .mark-outgoing .ensures) in
-    scanning-found (c .before .before .before .before .before .before .before .args .triangles .now)
-    (c .before .before .before .before .before .before .before .args .u) (c .before .before .before .before .before .before .before .args .n)
-    (c .before .before .before .before .before .before .before .args .s .now) (c .before .before .before .before .before .loop .s)
-    (c .before .before .mark-outgoing .last .1 .0) (c .before .before .before .before .before .loop .v)
-    (c .before .before .before .before .loop-test .taken) M (c .before .before .before .before .before .loop .inv)
+    let start : tie.Start Inv-loop μ-loop = search in
+    let at-loop : tie.At-loop Inv-loop μ-loop = search in
+    let in-loop : tie.In-loop Inv-loop μ-loop = search in
+    let after-mark-outgoing : tie.After-mark-outgoing Inv-loop μ-loop = search in
+    let M = marked-as (start .args .triangles .now) (at-loop .loop .s)
+    (after-mark-outgoing .mark-outgoing .last .1 .0) (at-loop .loop .v) (after-mark-outgoing .mark-outgoing .result)
+    (c .if1 .taken) (after-mark-outgoing .mark-outgoing .ensures) in
+    scanning-found (start .args .triangles .now)
+    (start .args .u) (start .args .n)
+    (start .args .s .now) (at-loop .loop .s)
+    (after-mark-outgoing .mark-outgoing .last .1 .0) (at-loop .loop .v)
+    (in-loop .loop-test .taken) M (at-loop .loop .inv)
 
 add-v : tie.Need-add-v Inv-loop μ-loop
-add-v c = omega (arith, c .before .before .before .before .loop-test .taken)
+add-v c =
+    let in-loop : tie.In-loop Inv-loop μ-loop = search in
+    omega (arith, in-loop .loop-test .taken)
 
 loop-less : tie.Need-loop-less Inv-loop μ-loop
-loop-less c = omega (arith, c .before .before .before .before .loop-test .taken)
+loop-less c =
+    let in-loop : tie.In-loop Inv-loop μ-loop = search in
+    omega (arith, in-loop .loop-test .taken)
 
 loop-again : tie.Need-loop-again Inv-loop μ-loop
 loop-again c =
-    let M = marked-as (c .before .before .before .before .before .before .before .args .triangles .now) (c .before .before .before .before .before .loop .s)
-    (c .before .before .mark-outgoing .last .1 .0) (c .before .before .before .before .before .loop .v) (c .before .before .mark-outgoing .result)
-    (c .if1 .left) (c .before .before .mark-outgoing .ensures) in
-    scanning-next (c .before .before .before .before .before .before .before .args .triangles .now)
-    (c .before .before .before .before .before .before .before .args .u) (c .before .before .before .before .before .before .before .args .n)
-    (c .before .before .before .before .before .before .before .args .s .now) (c .before .before .before .before .before .loop .s)
-    (c .before .before .mark-outgoing .last .1 .0) (c .before .before .before .before .before .loop .v)
-    (c .before .before .before .before .loop-test .taken) (c .before .before .mark-outgoing .kept .1 .0) M
-    (c .before .before .before .before .before .loop .inv)
+    let start : tie.Start Inv-loop μ-loop = search in
+    let at-loop : tie.At-loop Inv-loop μ-loop = search in
+    let in-loop : tie.In-loop Inv-loop μ-loop = search in
+    let after-mark-outgoing : tie.After-mark-outgoing Inv-loop μ-loop = search in
+    let M = marked-as (start .args .triangles .now) (at-loop .loop .s)
+    (after-mark-outgoing .mark-outgoing .last .1 .0) (at-loop .loop .v) (after-mark-outgoing .mark-outgoing .result)
+    (c .if1 .left) (after-mark-outgoing .mark-outgoing .ensures) in
+    scanning-next (start .args .triangles .now)
+    (start .args .u) (start .args .n)
+    (start .args .s .now) (at-loop .loop .s)
+    (after-mark-outgoing .mark-outgoing .last .1 .0) (at-loop .loop .v)
+    (in-loop .loop-test .taken) (after-mark-outgoing .mark-outgoing .kept .1 .0) M
+    (at-loop .loop .inv)
 
 same-length-2 : tie.Need-same-length-2 Inv-loop μ-loop
 same-length-2 c = c .before .loop .inv .long
 
 returns-2 : tie.Need-returns-2 Inv-loop μ-loop
 returns-2 c =
-    scanning-none (c .before .before .before .args .triangles .now) (c .before .before .before .args .u) (c .before .before .before .args .n)
-    (c .before .before .before .args .s .now) (c .before .loop .s) (c .before .loop .v)
+    let start : tie.Start Inv-loop μ-loop = search in
+    scanning-none (start .args .triangles .now) (start .args .u) (start .args .n)
+    (start .args .s .now) (c .before .loop .s) (c .before .loop .v)
     (c .loop-test .left) (c .before .loop .inv)
 
 pub duplicate-side-spec : {M : Type 1} → statement M

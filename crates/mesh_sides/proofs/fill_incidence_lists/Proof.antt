@@ -22,25 +22,32 @@ sub-d c = omega arith
 
 push-dart-requires : tie.Need-push-dart-requires Inv-loop μ-loop
 push-dart-requires c κs =
-    let I = c .before .before .loop .inv in
-    let z : suc (c .before .before .loop .d - 1) ≡ c .before .before .loop .d = omega (arith, c .before .loop-test .taken) in
+    let start : tie.Start Inv-loop μ-loop = search in
+    let at-loop : tie.At-loop Inv-loop μ-loop = search in
+    let I = at-loop .loop .inv in
+    let z : suc (at-loop .loop .d - 1) ≡ at-loop .loop .d = omega (arith, c .before .loop-test .taken) in
     record {
-      space = rw (I .long) (c .before .before .before .before .pre .space);
+      space = rw (I .long) (start .pre .space);
       dart = omega (arith, I .low, c .before .loop-test .taken);
       count = rw z (I .count);
       heads = I .heads;
-      few = c .before .before .before .before .pre .few;
+      few = start .pre .few;
     }
 
 loop-less : tie.Need-loop-less Inv-loop μ-loop
-loop-less c = omega (arith, c .before .before .before .loop-test .taken)
+loop-less c =
+    let in-loop : tie.In-loop Inv-loop μ-loop = search in
+    omega (arith, in-loop .loop-test .taken)
 
 loop-again : tie.Need-loop-again Inv-loop μ-loop
 loop-again c =
-    filled-next (c .before .before .before .before .before .before .args .triangles .now) (c .before .before .before .before .before .before .args .s .now)
-    (c .before .before .before .before .loop .s) (c .before .push-dart .last .1 .0) (c .before .before .before .before .loop .d)
-    (c .before .before .before .loop-test .taken) (c .before .push-dart .kept .1 .0) (c .before .push-dart .ensures)
-    (c .before .before .before .before .loop .inv)
+    let start : tie.Start Inv-loop μ-loop = search in
+    let at-loop : tie.At-loop Inv-loop μ-loop = search in
+    let in-loop : tie.In-loop Inv-loop μ-loop = search in
+    filled-next (start .args .triangles .now) (start .args .s .now)
+    (at-loop .loop .s) (c .before .push-dart .last .1 .0) (at-loop .loop .d)
+    (in-loop .loop-test .taken) (c .before .push-dart .kept .1 .0) (c .before .push-dart .ensures)
+    (at-loop .loop .inv)
 
 same-length : tie.Need-same-length Inv-loop μ-loop
 same-length c = c .before .loop .inv .long

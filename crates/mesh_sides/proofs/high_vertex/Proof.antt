@@ -26,30 +26,39 @@ origin-requires c κs = tt
 
 returns : tie.Need-returns Inv-loop μ-loop
 returns c =
-    let ts = c .before .before .before .before .before .args .triangles .now in
-    let n = c .before .before .before .before .before .args .n in
-    let d = c .before .before .before .loop .d in
+    let start : tie.Start Inv-loop μ-loop = search in
+    let at-loop : tie.At-loop Inv-loop μ-loop = search in
+    let in-loop : tie.In-loop Inv-loop μ-loop = search in
+    let ts = start .args .triangles .now in
+    let n = start .args .n in
+    let d = at-loop .loop .d in
     let h : leb n (org ts d) ≡ true = ap (leb n) (sym (c .before .origin .ensures .0)) ∙ le-leb n (c .before .origin .result) (c .if1 .taken) in
-    seeking-found (λ e. leb n (org ts e)) (length ts) d (c .before .before .loop-test .taken) h (c .before .before .before .loop .inv) ∙ row3-darts n ts
+    seeking-found (λ e. leb n (org ts e)) (length ts) d (in-loop .loop-test .taken) h (at-loop .loop .inv) ∙ row3-darts n ts
 
 add-d : tie.Need-add-d Inv-loop μ-loop
 add-d c = omega arith
 
 loop-less : tie.Need-loop-less Inv-loop μ-loop
-loop-less c = omega (arith, c .before .before .loop-test .taken)
+loop-less c =
+    let in-loop : tie.In-loop Inv-loop μ-loop = search in
+    omega (arith, in-loop .loop-test .taken)
 
 loop-again : tie.Need-loop-again Inv-loop μ-loop
 loop-again c =
-    let ts = c .before .before .before .before .before .args .triangles .now in
-    let n = c .before .before .before .before .before .args .n in
-    let d = c .before .before .before .loop .d in
+    let start : tie.Start Inv-loop μ-loop = search in
+    let at-loop : tie.At-loop Inv-loop μ-loop = search in
+    let in-loop : tie.In-loop Inv-loop μ-loop = search in
+    let ts = start .args .triangles .now in
+    let n = start .args .n in
+    let d = at-loop .loop .d in
     let h : leb n (org ts d) ≡ false = ap (leb n) (sym (c .before .origin .ensures .0)) ∙ lt-leb n (c .before .origin .result) (c .if1 .left) in
-    seeking-next (λ e. leb n (org ts e)) (length ts) d (c .before .before .loop-test .taken) h (c .before .before .before .loop .inv)
+    seeking-next (λ e. leb n (org ts e)) (length ts) d (in-loop .loop-test .taken) h (at-loop .loop .inv)
 
 returns-2 : tie.Need-returns-2 Inv-loop μ-loop
 returns-2 c =
-    let ts = c .before .before .before .args .triangles .now in
-    let n = c .before .before .before .args .n in
+    let start : tie.Start Inv-loop μ-loop = search in
+    let ts = start .args .triangles .now in
+    let n = start .args .n in
     seeking-end (λ e. leb n (org ts e)) (length ts) (c .before .loop .d) (c .loop-test .left) (c .before .loop .inv) ∙ row3-darts n ts
 
 pub high-vertex-spec : {M : Type 1} → statement M

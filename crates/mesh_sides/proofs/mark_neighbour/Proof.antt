@@ -19,59 +19,83 @@ get-mark-requires : tie.Need-get-mark-requires
 get-mark-requires c κs = search needs
 
 add-if1 : tie.Need-add-if1
-add-if1 c = omega (arith, c .before .before .before .before .before .pre .0 .small)
+add-if1 c =
+    let start : tie.Start = search in
+    omega (arith, start .pre .0 .small)
 
 same-length : tie.Need-same-length
 same-length c = search needs
 
 returns : tie.Need-returns
-returns c = left-clash (c .before .before .before .before .before .before .args .triangles .now)
-    (c .before .before .before .before .before .before .args .s .now) (c .before .before .before .before .before .before .args .v)
-    (c .before .before .before .before .before .before .args .e) (c .before .before .before .origin .result) (c .before .get-mark .result)
-    (rw (c .before .before .before .before .prev-dart .ensures) at (c .before .before .before .origin .ensures .0)) (c .before .get-mark .ensures .0)
+returns c =
+    let start : tie.Start = search in
+    let after-prev-dart : tie.After-prev-dart = search in
+    let after-origin : tie.After-origin = search in
+    left-clash (start .args .triangles .now)
+    (start .args .s .now) (start .args .v)
+    (start .args .e) (after-origin .origin .result) (c .before .get-mark .result)
+    (rw (after-prev-dart .prev-dart .ensures) at (after-origin .origin .ensures .0)) (c .before .get-mark .ensures .0)
     (c .if1 .taken)
 
 next-dart-requires : tie.Need-next-dart-requires
 next-dart-requires c κs = search needs
 
 mul-set-mark : tie.Need-mul-set-mark
-mul-set-mark c = omega (arith, c .before .before .before .before .before .origin .ensures .1)
+mul-set-mark c =
+    let after-origin : tie.After-origin = search in
+    omega (arith, after-origin .origin .ensures .1)
 
 add-set-mark : tie.Need-add-set-mark
-add-set-mark c = omega (arith, c .before .before .before .before .before .before .before .before .pre .0 .small)
+add-set-mark c =
+    let start : tie.Start = search in
+    omega (arith, start .pre .0 .small)
 
 mul-set-mark-2 : tie.Need-mul-set-mark-2
-mul-set-mark-2 c = omega (arith, c .before .before .before .before .before .before .before .before .pre .0 .small)
+mul-set-mark-2 c =
+    let start : tie.Start = search in
+    omega (arith, start .pre .0 .small)
 
 add-set-mark-2 : tie.Need-add-set-mark-2
-add-set-mark-2 c = omega (arith, c .before .before .before .before .before .before .before .before .pre .0 .small)
+add-set-mark-2 c =
+    let start : tie.Start = search in
+    omega (arith, start .pre .0 .small)
 
 set-mark-requires : tie.Need-set-mark-requires
-set-mark-requires c κs = (
-  omega (
-    arith,
-    c .before .before .before .before .before .origin .ensures .0,
-    c .before .before .before .before .before .before .prev-dart .ensures,
-    rw (c .before .before .before .before .before .before .prev-dart .ensures) at (c .before .before .before .before .before .origin .ensures .0),
-    c .before .before .before .before .before .before .before .before .pre .0 .space .mark
-        (prev (c .before .before .before .before .before .before .before .before .args .e)),
-  ),
-  omega (arith, c .before .before .before .before .before .before .before .before .pre .0 .small),
-)
+set-mark-requires c κs =
+    let start : tie.Start = search in
+    let after-prev-dart : tie.After-prev-dart = search in
+    let after-origin : tie.After-origin = search in (
+      omega (
+        arith,
+        after-origin .origin .ensures .0,
+        after-prev-dart .prev-dart .ensures,
+        rw (after-prev-dart .prev-dart .ensures) at (after-origin .origin .ensures .0),
+        start .pre .0 .space .mark
+            (prev (start .args .e)),
+      ),
+      omega (arith, start .pre .0 .small),
+    )
 
 same-length-2 : tie.Need-same-length-2
 same-length-2 c = search needs
 
 returns-2 : tie.Need-returns-2
-returns-2 c = left-on (c .before .before .before .before .before .before .before .before .before .before .args .triangles .now)
-    (c .before .before .before .before .before .before .before .before .before .before .args .s .now)
-    (c .before .before .before .before .before .before .before .before .before .before .args .v)
-    (c .before .before .before .before .before .before .before .before .before .before .args .e)
-    (c .before .before .before .before .before .before .before .origin .result) (c .before .before .before .before .before .get-mark .result)
-    (rw (c .before .before .before .before .before .before .before .before .prev-dart .ensures)
-    at (c .before .before .before .before .before .before .before .origin .ensures .0)) (c .before .before .before .before .before .get-mark .ensures .0)
-    (c .before .set-mark .last .0) (c .before .before .before .next-dart .result) (c .before .before .before .before .if1 .left)
-    (c .before .before .before .next-dart .ensures) (c .before .set-mark .ensures)
+returns-2 c =
+    let start : tie.Start = search in
+    let after-prev-dart : tie.After-prev-dart = search in
+    let after-origin : tie.After-origin = search in
+    let after-get-mark : tie.After-get-mark = search in
+    let else1 : tie.Else1 = search in
+    let after-next-dart : tie.After-next-dart = search in
+    left-on (start .args .triangles .now)
+    (start .args .s .now)
+    (start .args .v)
+    (start .args .e)
+    (after-origin .origin .result) (after-get-mark .get-mark .result)
+    (rw (after-prev-dart .prev-dart .ensures)
+    at (after-origin .origin .ensures .0)) (after-get-mark .get-mark .ensures .0)
+    (c .before .set-mark .last .0) (after-next-dart .next-dart .result) (else1 .if1 .left)
+    (after-next-dart .next-dart .ensures) (c .before .set-mark .ensures)
 
 pub mark-neighbour-spec : {M : Type 1} → statement M
 mark-neighbour-spec =

@@ -23,71 +23,102 @@ prev-dart-requires : tie.Need-prev-dart-requires Inv-loop μ-loop
 prev-dart-requires c κs = c .get-head .ensures .1
 
 loop-holds : tie.Need-loop-holds Inv-loop μ-loop
-loop-holds c = marking-start (c .before .before .before .before .before .before .args .triangles .now)
-    (c .before .before .before .before .before .before .args .s .now) (c .before .before .before .before .before .before .args .v)
-    (c .before .before .before .get-count .result) (c .before .get-head .result) (c .prev-dart .result) (c .prev-dart .ensures)
+loop-holds c =
+    let start : tie.Start Inv-loop μ-loop = search in
+    let after-get-count : tie.After-get-count Inv-loop μ-loop = search in
+    marking-start (start .args .triangles .now)
+    (start .args .s .now) (start .args .v)
+    (after-get-count .get-count .result) (c .before .get-head .result) (c .prev-dart .result) (c .prev-dart .ensures)
     (prev-small (c .before .get-head .result) (c .prev-dart .result) (c .prev-dart .ensures)
-    (omega (arith, c .before .get-head .ensures .0, c .before .before .before .before .before .before .pre .1)))
+    (omega (arith, c .before .get-head .ensures .0, start .pre .1)))
 
 mark-neighbour-requires : tie.Need-mark-neighbour-requires Inv-loop μ-loop
-mark-neighbour-requires c κs = (
-  rw (c .before .before .loop .inv .long) (c .before .before .before .before .before .before .before .before .before .pre .0),
-  c .before .before .loop .inv .small,
-)
+mark-neighbour-requires c κs =
+    let start : tie.Start Inv-loop μ-loop = search in
+    let at-loop : tie.At-loop Inv-loop μ-loop = search in (
+      rw (at-loop .loop .inv .long) (start .pre .0),
+      at-loop .loop .inv .small,
+    )
 
 same-length : tie.Need-same-length Inv-loop μ-loop
-same-length c = c .before .before .mark-neighbour .kept .1 .0 ∙ c .before .before .before .before .before .loop .inv .long
+same-length c =
+    let at-loop : tie.At-loop Inv-loop μ-loop = search in
+    let after-mark-neighbour : tie.After-mark-neighbour Inv-loop μ-loop = search in
+    after-mark-neighbour .mark-neighbour .kept .1 .0 ∙ at-loop .loop .inv .long
 
 returns : tie.Need-returns Inv-loop μ-loop
-returns c = marked-found (c .before .before .before .before .before .before .before .before .before .before .before .before .args .triangles .now)
-    (c .before .before .before .before .before .before .before .before .before .before .before .before .args .s .now)
-    (c .before .before .before .before .before .before .before .before .before .before .before .before .args .v)
-    (c .before .before .before .before .before .before .before .before .before .get-count .result)
-    (c .before .before .before .before .before .before .before .get-head .result)
-    (c .before .before .before .before .before .loop .s) (c .before .before .mark-neighbour .last .1 .0) (c .before .before .before .before .before .loop .e)
-    (c .before .before .before .before .before .loop .i) (c .before .before .mark-neighbour .result)
-    (c .before .before .before .before .before .before .before .before .before .get-count .ensures .0)
-    (c .before .before .before .before .before .before .before .get-head .ensures .0)
-    (c .before .before .before .before .loop-test .taken) (c .if1 .taken) (c .before .before .mark-neighbour .ensures)
-    (c .before .before .before .before .before .loop .inv)
+returns c =
+    let start : tie.Start Inv-loop μ-loop = search in
+    let after-get-count : tie.After-get-count Inv-loop μ-loop = search in
+    let after-get-head : tie.After-get-head Inv-loop μ-loop = search in
+    let at-loop : tie.At-loop Inv-loop μ-loop = search in
+    let in-loop : tie.In-loop Inv-loop μ-loop = search in
+    let after-mark-neighbour : tie.After-mark-neighbour Inv-loop μ-loop = search in
+    marked-found (start .args .triangles .now)
+    (start .args .s .now)
+    (start .args .v)
+    (after-get-count .get-count .result)
+    (after-get-head .get-head .result)
+    (at-loop .loop .s) (after-mark-neighbour .mark-neighbour .last .1 .0) (at-loop .loop .e)
+    (at-loop .loop .i) (after-mark-neighbour .mark-neighbour .result)
+    (after-get-count .get-count .ensures .0)
+    (after-get-head .get-head .ensures .0)
+    (in-loop .loop-test .taken) (c .if1 .taken) (after-mark-neighbour .mark-neighbour .ensures)
+    (at-loop .loop .inv)
 
 get-op-requires : tie.Need-get-op-requires Inv-loop μ-loop
 get-op-requires c κs = tt
 
 add-i : tie.Need-add-i Inv-loop μ-loop
-add-i c = omega (
-  arith,
-  c .before .before .before .before .before .before .loop-test .taken,
-  c .before .before .before .before .before .before .before .before .before .before .before .get-count .ensures .1,
-)
+add-i c =
+    let after-get-count : tie.After-get-count Inv-loop μ-loop = search in
+    let in-loop : tie.In-loop Inv-loop μ-loop = search in
+    omega (
+      arith,
+      in-loop .loop-test .taken,
+      after-get-count .get-count .ensures .1,
+    )
 
 loop-less : tie.Need-loop-less Inv-loop μ-loop
-loop-less c = omega (arith, c .before .before .before .before .before .before .loop-test .taken)
+loop-less c =
+    let in-loop : tie.In-loop Inv-loop μ-loop = search in
+    omega (arith, in-loop .loop-test .taken)
 
 loop-again : tie.Need-loop-again Inv-loop μ-loop
 loop-again c =
-    marking-next (c .before .before .before .before .before .before .before .before .before .before .before .before .before .before .args .triangles .now)
-    (c .before .before .before .before .before .before .before .before .before .before .before .before .before .before .args .s .now)
-    (c .before .before .before .before .before .before .before .before .before .before .before .before .before .before .args .v)
-    (c .before .before .before .before .before .before .before .before .before .before .before .get-count .result)
-    (c .before .before .before .before .before .before .before .before .before .get-head .result)
-    (c .before .before .before .before .before .before .before .loop .s) (c .before .before .before .before .mark-neighbour .last .1 .0)
-    (c .before .before .before .before .before .before .before .loop .e) (c .get-op .result)
-    (c .before .before .before .before .before .before .before .loop .i) (c .before .before .before .before .mark-neighbour .result)
-    (c .before .before .before .before .before .before .loop-test .taken) (c .before .before .if1 .left)
-    (c .before .before .before .before .mark-neighbour .kept .1 .0) (c .before .before .before .before .mark-neighbour .ensures) (c .get-op .ensures .0)
-    (c .get-op .ensures .1) (c .before .before .before .before .before .before .before .loop .inv)
+    let start : tie.Start Inv-loop μ-loop = search in
+    let after-get-count : tie.After-get-count Inv-loop μ-loop = search in
+    let after-get-head : tie.After-get-head Inv-loop μ-loop = search in
+    let at-loop : tie.At-loop Inv-loop μ-loop = search in
+    let in-loop : tie.In-loop Inv-loop μ-loop = search in
+    let after-mark-neighbour : tie.After-mark-neighbour Inv-loop μ-loop = search in
+    let else1 : tie.Else1 Inv-loop μ-loop = search in
+    marking-next (start .args .triangles .now)
+    (start .args .s .now)
+    (start .args .v)
+    (after-get-count .get-count .result)
+    (after-get-head .get-head .result)
+    (at-loop .loop .s) (after-mark-neighbour .mark-neighbour .last .1 .0)
+    (at-loop .loop .e) (c .get-op .result)
+    (at-loop .loop .i) (after-mark-neighbour .mark-neighbour .result)
+    (in-loop .loop-test .taken) (else1 .if1 .left)
+    (after-mark-neighbour .mark-neighbour .kept .1 .0) (after-mark-neighbour .mark-neighbour .ensures) (c .get-op .ensures .0)
+    (c .get-op .ensures .1) (at-loop .loop .inv)
 
 same-length-2 : tie.Need-same-length-2 Inv-loop μ-loop
 same-length-2 c = c .before .loop .inv .long
 
 returns-2 : tie.Need-returns-2 Inv-loop μ-loop
-returns-2 c = marked-none (c .before .before .before .before .before .before .before .before .args .triangles .now)
-    (c .before .before .before .before .before .before .before .before .args .s .now)
-    (c .before .before .before .before .before .before .before .before .args .v) (c .before .before .before .before .before .get-count .result)
-    (c .before .before .before .get-head .result)
-    (c .before .loop .s) (c .before .loop .e) (c .before .loop .i) (c .before .before .before .before .before .get-count .ensures .0)
-    (c .before .before .before .get-head .ensures .0) (c .loop-test .left) (c .before .loop .inv)
+returns-2 c =
+    let start : tie.Start Inv-loop μ-loop = search in
+    let after-get-count : tie.After-get-count Inv-loop μ-loop = search in
+    let after-get-head : tie.After-get-head Inv-loop μ-loop = search in
+    marked-none (start .args .triangles .now)
+    (start .args .s .now)
+    (start .args .v) (after-get-count .get-count .result)
+    (after-get-head .get-head .result)
+    (c .before .loop .s) (c .before .loop .e) (c .before .loop .i) (after-get-count .get-count .ensures .0)
+    (after-get-head .get-head .ensures .0) (c .loop-test .left) (c .before .loop .inv)
 
 pub mark-outgoing-spec : {M : Type 1} → statement M
 mark-outgoing-spec =

@@ -15,38 +15,54 @@ get-mark-requires : tie.Need-get-mark-requires
 get-mark-requires c κs = search needs
 
 add-if2 : tie.Need-add-if2
-add-if2 c = omega (arith, c .before .before .before .before .before .pre .small)
+add-if2 c =
+    let start : tie.Start = search in
+    omega (arith, start .pre .small)
 
 set-op-requires : tie.Need-set-op-requires
-set-op-requires c κs = (
-  c .before .before .before .before .before .before .before .pre .space .dart
-      (c .before .before .before .before .before .before .before .args .e) (c .before .before .before .before .before .if1 .taken),
-  omega arith,
-)
+set-op-requires c κs =
+    let start : tie.Start = search in
+    let then1 : tie.Then1 = search in (
+      start .pre .space .dart
+          (start .args .e) (then1 .if1 .taken),
+      omega arith,
+    )
 
 same-length : tie.Need-same-length
 same-length c = search needs
 
 returns : tie.Need-returns
-returns c = met-one (c .before .before .before .before .before .before .before .before .before .args .triangles .now)
-    (c .before .before .before .before .before .before .before .before .before .args .s .now)
-    (c .before .before .before .before .before .before .before .before .before .args .v)
-    (c .before .before .before .before .before .before .before .before .before .args .e) (c .before .before .before .before .before .before .origin .result)
-    (c .before .before .before .before .get-mark .result) (c .before .before .before .before .before .before .before .if1 .taken)
-    (c .before .before .before .before .before .before .origin .ensures .0) (c .before .before .before .before .get-mark .ensures .0)
-    (c .before .set-op .last .0) (c .before .before .before .if2 .taken) (c .before .set-op .ensures)
+returns c =
+    let start : tie.Start = search in
+    let then1 : tie.Then1 = search in
+    let after-origin : tie.After-origin = search in
+    let after-get-mark : tie.After-get-mark = search in
+    let then2 : tie.Then2 = search in
+    met-one (start .args .triangles .now)
+    (start .args .s .now)
+    (start .args .v)
+    (start .args .e) (after-origin .origin .result)
+    (after-get-mark .get-mark .result) (then1 .if1 .taken)
+    (after-origin .origin .ensures .0) (after-get-mark .get-mark .ensures .0)
+    (c .before .set-op .last .0) (then2 .if2 .taken) (c .before .set-op .ensures)
 
 same-length-2 : tie.Need-same-length-2
 same-length-2 c = search needs
 
 returns-2 : tie.Need-returns-2
-returns-2 c = met-none (c .before .before .before .before .before .before .args .triangles .now)
-    (c .before .before .before .before .before .before .args .s .now) (c .before .before .before .before .before .before .args .v)
-    (c .before .before .before .before .before .before .args .e) (c .before .before .before .origin .result) (c .before .get-mark .result)
-    (c .before .before .before .before .if1 .taken) (c .before .before .before .origin .ensures .0) (c .before .get-mark .ensures .0) (c .if2 .left)
+returns-2 c =
+    let start : tie.Start = search in
+    let then1 : tie.Then1 = search in
+    let after-origin : tie.After-origin = search in
+    met-none (start .args .triangles .now)
+    (start .args .s .now) (start .args .v)
+    (start .args .e) (after-origin .origin .result) (c .before .get-mark .result)
+    (then1 .if1 .taken) (after-origin .origin .ensures .0) (c .before .get-mark .ensures .0) (c .if2 .left)
 
 returns-3 : tie.Need-returns-3
-returns-3 c = met-past (c .before .before .args .triangles .now) (c .before .before .args .s .now) (c .before .before .args .v) (c .before .before .args .e)
+returns-3 c =
+    let start : tie.Start = search in
+    met-past (start .args .triangles .now) (start .args .s .now) (start .args .v) (start .args .e)
     (c .if1 .left)
 
 pub match-dart-spec : {M : Type 1} → statement M

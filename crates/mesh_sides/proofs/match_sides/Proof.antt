@@ -19,133 +19,191 @@ loop-holds : tie.Need-loop-holds Inv-loop μ-loop
 loop-holds c = matching-start (c .before .args .triangles .now) (c .before .args .n) (c .before .args .s .now)
 
 mark-outgoing-requires : tie.Need-mark-outgoing-requires Inv-loop μ-loop
-mark-outgoing-requires c κs = (
-  ready-at (c .before .before .loop .s) (c .before .before .loop .v) (c .before .before .before .before .pre) (c .before .loop-test .taken)
-      (c .before .before .loop .inv .long),
-  rw (both-heads (c .before .before .before .before .args .s .now) (c .before .before .loop .s) (tablesOf (c .before .before .loop .s) .op)
-      (tablesOf (c .before .before .loop .s) .mark) (c .before .before .loop .inv .same))
-      (c .before .before .before .before .pre .heads (c .before .before .loop .v)),
-)
+mark-outgoing-requires c κs =
+    let start : tie.Start Inv-loop μ-loop = search in
+    let at-loop : tie.At-loop Inv-loop μ-loop = search in (
+      ready-at (at-loop .loop .s) (at-loop .loop .v) (start .pre) (c .before .loop-test .taken)
+          (at-loop .loop .inv .long),
+      rw (both-heads (start .args .s .now) (at-loop .loop .s) (tablesOf (at-loop .loop .s) .op)
+          (tablesOf (at-loop .loop .s) .mark) (at-loop .loop .inv .same))
+          (start .pre .heads (at-loop .loop .v)),
+    )
 
 same-length : tie.Need-same-length Inv-loop μ-loop
-same-length c = c .before .before .mark-outgoing .kept .1 .0 ∙ c .before .before .before .before .before .loop .inv .long
+same-length c =
+    let at-loop : tie.At-loop Inv-loop μ-loop = search in
+    let after-mark-outgoing : tie.After-mark-outgoing Inv-loop μ-loop = search in
+    after-mark-outgoing .mark-outgoing .kept .1 .0 ∙ at-loop .loop .inv .long
 
 returns : tie.Need-returns Inv-loop μ-loop
-returns c = matching-twice (c .before .before .before .before .before .before .before .args .triangles .now)
-    (c .before .before .before .before .before .before .before .args .n) (c .before .before .before .before .before .before .before .args .s .now)
-    (c .before .before .before .before .before .loop .s) (c .before .before .mark-outgoing .last .1 .0) (c .before .before .before .before .before .loop .v)
-    (c .before .before .before .before .loop-test .taken) (c .before .before .before .before .before .loop .inv)
-    (c .before .before .mark-outgoing .result) (c .if1 .taken) (c .before .before .mark-outgoing .last .1 .0) (c .before .before .mark-outgoing .ensures)
+returns c =
+    let start : tie.Start Inv-loop μ-loop = search in
+    let at-loop : tie.At-loop Inv-loop μ-loop = search in
+    let in-loop : tie.In-loop Inv-loop μ-loop = search in
+    let after-mark-outgoing : tie.After-mark-outgoing Inv-loop μ-loop = search in
+    matching-twice (start .args .triangles .now)
+    (start .args .n) (start .args .s .now)
+    (at-loop .loop .s) (after-mark-outgoing .mark-outgoing .last .1 .0) (at-loop .loop .v)
+    (in-loop .loop-test .taken) (at-loop .loop .inv)
+    (after-mark-outgoing .mark-outgoing .result) (c .if1 .taken) (after-mark-outgoing .mark-outgoing .last .1 .0) (after-mark-outgoing .mark-outgoing .ensures)
 
 match-incoming-requires : tie.Need-match-incoming-requires Inv-loop μ-loop
-match-incoming-requires c κs = (
-  ready-at (c .before .before .before .mark-outgoing .last .1 .0) (c .before .before .before .before .before .before .loop .v)
-      (c .before .before .before .before .before .before .before .before .pre) (c .before .before .before .before .before .loop-test .taken)
-      (c .before .before .before .mark-outgoing .kept .1 .0 ∙ c .before .before .before .before .before .before .loop .inv .long),
-  rw (
-    mark-heads (c .before .before .before .before .before .before .loop .s) (c .before .before .before .mark-outgoing .last .1 .0) _
-        (c .before .before .before .mark-outgoing .ensures .same),
-    both-heads (c .before .before .before .before .before .before .before .before .args .s .now)
-        (c .before .before .before .before .before .before .loop .s) (tablesOf (c .before .before .before .before .before .before .loop .s) .op)
-        (tablesOf (c .before .before .before .before .before .before .loop .s) .mark) (c .before .before .before .before .before .before .loop .inv .same),
-  )
-      (c .before .before .before .before .before .before .before .before .pre .heads (c .before .before .before .before .before .before .loop .v)),
-)
+match-incoming-requires c κs =
+    let start : tie.Start Inv-loop μ-loop = search in
+    let at-loop : tie.At-loop Inv-loop μ-loop = search in
+    let in-loop : tie.In-loop Inv-loop μ-loop = search in
+    let after-mark-outgoing : tie.After-mark-outgoing Inv-loop μ-loop = search in (
+      ready-at (after-mark-outgoing .mark-outgoing .last .1 .0) (at-loop .loop .v)
+          (start .pre) (in-loop .loop-test .taken)
+          (after-mark-outgoing .mark-outgoing .kept .1 .0 ∙ at-loop .loop .inv .long),
+      rw (
+        mark-heads (at-loop .loop .s) (after-mark-outgoing .mark-outgoing .last .1 .0) _
+            (after-mark-outgoing .mark-outgoing .ensures .same),
+        both-heads (start .args .s .now)
+            (at-loop .loop .s) (tablesOf (at-loop .loop .s) .op)
+            (tablesOf (at-loop .loop .s) .mark) (at-loop .loop .inv .same),
+      )
+          (start .pre .heads (at-loop .loop .v)),
+    )
 
 add-duplicate-side : tie.Need-add-duplicate-side Inv-loop μ-loop
 add-duplicate-side c = omega arith
 
 duplicate-side-requires : tie.Need-duplicate-side-requires Inv-loop μ-loop
-duplicate-side-requires c κs = ready-kept (c .before .before .before .match-incoming .last .1 .0)
-    (c .before .before .before .before .before .before .before .before .before .before .before .before .pre)
-    (c .before .before .before .match-incoming .kept .1 .0 ∙ c .before .before .before .before .before .before .before .mark-outgoing .kept .1 .0
-    ∙ c .before .before .before .before .before .before .before .before .before .before .loop .inv .long)
-    (op-heads (c .before .before .before .before .before .before .before .mark-outgoing .last .1 .0) (c .before .before .before .match-incoming .last .1 .0) _
-    (c .before .before .before .match-incoming .ensures .same)
-    ∙ mark-heads (c .before .before .before .before .before .before .before .before .before .before .loop .s)
-    (c .before .before .before .before .before .before .before .mark-outgoing .last .1 .0) _
-    (c .before .before .before .before .before .before .before .mark-outgoing .ensures .same)
-    ∙ both-heads (c .before .before .before .before .before .before .before .before .before .before .before .before .args .s .now)
-    (c .before .before .before .before .before .before .before .before .before .before .loop .s)
-    (tablesOf (c .before .before .before .before .before .before .before .before .before .before .loop .s) .op)
-    (tablesOf (c .before .before .before .before .before .before .before .before .before .before .loop .s) .mark)
-    (c .before .before .before .before .before .before .before .before .before .before .loop .inv .same))
+duplicate-side-requires c κs =
+    let start : tie.Start Inv-loop μ-loop = search in
+    let at-loop : tie.At-loop Inv-loop μ-loop = search in
+    let after-mark-outgoing : tie.After-mark-outgoing Inv-loop μ-loop = search in
+    let after-match-incoming : tie.After-match-incoming Inv-loop μ-loop = search in
+    ready-kept (after-match-incoming .match-incoming .last .1 .0)
+    (start .pre)
+    (after-match-incoming .match-incoming .kept .1 .0 ∙ after-mark-outgoing .mark-outgoing .kept .1 .0
+    ∙ at-loop .loop .inv .long)
+    (op-heads (after-mark-outgoing .mark-outgoing .last .1 .0) (after-match-incoming .match-incoming .last .1 .0) _
+    (after-match-incoming .match-incoming .ensures .same)
+    ∙ mark-heads (at-loop .loop .s)
+    (after-mark-outgoing .mark-outgoing .last .1 .0) _
+    (after-mark-outgoing .mark-outgoing .ensures .same)
+    ∙ both-heads (start .args .s .now)
+    (at-loop .loop .s)
+    (tablesOf (at-loop .loop .s) .op)
+    (tablesOf (at-loop .loop .s) .mark)
+    (at-loop .loop .inv .same))
 
 same-length-2 : tie.Need-same-length-2 Inv-loop μ-loop
-same-length-2 c = c .before .before .duplicate-side .kept .1 .1 .0 ∙ c .before .before .before .before .before .before .match-incoming .kept .1 .0
-    ∙ c .before .before .before .before .before .before .before .before .before .before .mark-outgoing .kept .1 .0
-    ∙ c .before .before .before .before .before .before .before .before .before .before .before .before .before .loop .inv .long
+same-length-2 c =
+    let at-loop : tie.At-loop Inv-loop μ-loop = search in
+    let after-mark-outgoing : tie.After-mark-outgoing Inv-loop μ-loop = search in
+    let after-match-incoming : tie.After-match-incoming Inv-loop μ-loop = search in
+    let after-duplicate-side : tie.After-duplicate-side Inv-loop μ-loop = search in
+    after-duplicate-side .duplicate-side .kept .1 .1 .0 ∙ after-match-incoming .match-incoming .kept .1 .0
+    ∙ after-mark-outgoing .mark-outgoing .kept .1 .0
+    ∙ at-loop .loop .inv .long
 
 returns-2 : tie.Need-returns-2 Inv-loop μ-loop
 returns-2 c =
+    let start : tie.Start Inv-loop μ-loop = search in
+    let at-loop : tie.At-loop Inv-loop μ-loop = search in
+    let in-loop : tie.In-loop Inv-loop μ-loop = search in
+    let after-mark-outgoing : tie.After-mark-outgoing Inv-loop μ-loop = search in
+    let else1 : tie.Else1 Inv-loop μ-loop = search in
+    let after-match-incoming : tie.After-match-incoming Inv-loop μ-loop = search in
+    let then2 : tie.Then2 Inv-loop μ-loop = search in
+    let after-duplicate-side : tie.After-duplicate-side Inv-loop μ-loop = search in
     matching-later
-    (c .before .before .before .before .before .before .before .before .before .before .before .before .before .before .before .args .triangles .now)
-    (c .before .before .before .before .before .before .before .before .before .before .before .before .before .before .before .args .n)
-    (c .before .before .before .before .before .before .before .before .before .before .before .before .before .before .before .args .s .now)
-    (c .before .before .before .before .before .before .before .before .before .before .before .before .before .loop .s)
-    (c .before .before .before .before .before .before .before .before .before .before .mark-outgoing .last .1 .0)
-    (c .before .before .before .before .before .before .before .before .before .before .before .before .before .loop .v)
-    (c .before .before .before .before .before .before .before .before .before .before .before .before .loop-test .taken)
-    (c .before .before .before .before .before .before .before .before .before .before .before .before .before .loop .inv)
-    (c .before .before .before .before .before .before .before .before .before .before .mark-outgoing .result)
-    (c .before .before .before .before .before .before .before .before .if1 .left)
-    (c .before .before .before .before .before .before .before .before .before .before .mark-outgoing .ensures)
-    (c .before .before .before .before .before .before .match-incoming .last .1 .0)
-    (c .before .before .before .before .before .before .match-incoming .result)
-    (c .before .before .before .before .before .before .match-incoming .ensures) (c .before .before .before .before .if2 .taken)
-    (c .before .before .duplicate-side .last .1 .1 .0) (c .before .before .duplicate-side .result) (c .before .before .duplicate-side .ensures)
-    (c .if3 .taken) (c .before .before .duplicate-side .last .1 .1 .0)
+    (start .args .triangles .now)
+    (start .args .n)
+    (start .args .s .now)
+    (at-loop .loop .s)
+    (after-mark-outgoing .mark-outgoing .last .1 .0)
+    (at-loop .loop .v)
+    (in-loop .loop-test .taken)
+    (at-loop .loop .inv)
+    (after-mark-outgoing .mark-outgoing .result)
+    (else1 .if1 .left)
+    (after-mark-outgoing .mark-outgoing .ensures)
+    (after-match-incoming .match-incoming .last .1 .0)
+    (after-match-incoming .match-incoming .result)
+    (after-match-incoming .match-incoming .ensures) (then2 .if2 .taken)
+    (after-duplicate-side .duplicate-side .last .1 .1 .0) (after-duplicate-side .duplicate-side .result) (after-duplicate-side .duplicate-side .ensures)
+    (c .if3 .taken) (after-duplicate-side .duplicate-side .last .1 .1 .0)
 
 same-length-3 : tie.Need-same-length-3 Inv-loop μ-loop
-same-length-3 c = c .before .before .duplicate-side .kept .1 .1 .0 ∙ c .before .before .before .before .before .before .match-incoming .kept .1 .0
-    ∙ c .before .before .before .before .before .before .before .before .before .before .mark-outgoing .kept .1 .0
-    ∙ c .before .before .before .before .before .before .before .before .before .before .before .before .before .loop .inv .long
+same-length-3 c =
+    let at-loop : tie.At-loop Inv-loop μ-loop = search in
+    let after-mark-outgoing : tie.After-mark-outgoing Inv-loop μ-loop = search in
+    let after-match-incoming : tie.After-match-incoming Inv-loop μ-loop = search in
+    let after-duplicate-side : tie.After-duplicate-side Inv-loop μ-loop = search in
+    after-duplicate-side .duplicate-side .kept .1 .1 .0 ∙ after-match-incoming .match-incoming .kept .1 .0
+    ∙ after-mark-outgoing .mark-outgoing .kept .1 .0
+    ∙ at-loop .loop .inv .long
 
 returns-3 : tie.Need-returns-3 Inv-loop μ-loop
 returns-3 c =
+    let start : tie.Start Inv-loop μ-loop = search in
+    let at-loop : tie.At-loop Inv-loop μ-loop = search in
+    let in-loop : tie.In-loop Inv-loop μ-loop = search in
+    let after-mark-outgoing : tie.After-mark-outgoing Inv-loop μ-loop = search in
+    let else1 : tie.Else1 Inv-loop μ-loop = search in
+    let after-match-incoming : tie.After-match-incoming Inv-loop μ-loop = search in
+    let then2 : tie.Then2 Inv-loop μ-loop = search in
+    let after-duplicate-side : tie.After-duplicate-side Inv-loop μ-loop = search in
     matching-lacks
-    (c .before .before .before .before .before .before .before .before .before .before .before .before .before .before .before .args .triangles .now)
-    (c .before .before .before .before .before .before .before .before .before .before .before .before .before .before .before .args .n)
-    (c .before .before .before .before .before .before .before .before .before .before .before .before .before .before .before .args .s .now)
-    (c .before .before .before .before .before .before .before .before .before .before .before .before .before .loop .s)
-    (c .before .before .before .before .before .before .before .before .before .before .mark-outgoing .last .1 .0)
-    (c .before .before .before .before .before .before .before .before .before .before .before .before .before .loop .v)
-    (c .before .before .before .before .before .before .before .before .before .before .before .before .loop-test .taken)
-    (c .before .before .before .before .before .before .before .before .before .before .before .before .before .loop .inv)
-    (c .before .before .before .before .before .before .before .before .before .before .mark-outgoing .result)
-    (c .before .before .before .before .before .before .before .before .if1 .left)
-    (c .before .before .before .before .before .before .before .before .before .before .mark-outgoing .ensures)
-    (c .before .before .before .before .before .before .match-incoming .last .1 .0)
-    (c .before .before .before .before .before .before .match-incoming .result)
-    (c .before .before .before .before .before .before .match-incoming .ensures) (c .before .before .before .before .if2 .taken)
-    (c .before .before .duplicate-side .last .1 .1 .0) (c .before .before .duplicate-side .result) (c .before .before .duplicate-side .ensures)
-    (c .if3 .left) (c .before .before .duplicate-side .last .1 .1 .0)
+    (start .args .triangles .now)
+    (start .args .n)
+    (start .args .s .now)
+    (at-loop .loop .s)
+    (after-mark-outgoing .mark-outgoing .last .1 .0)
+    (at-loop .loop .v)
+    (in-loop .loop-test .taken)
+    (at-loop .loop .inv)
+    (after-mark-outgoing .mark-outgoing .result)
+    (else1 .if1 .left)
+    (after-mark-outgoing .mark-outgoing .ensures)
+    (after-match-incoming .match-incoming .last .1 .0)
+    (after-match-incoming .match-incoming .result)
+    (after-match-incoming .match-incoming .ensures) (then2 .if2 .taken)
+    (after-duplicate-side .duplicate-side .last .1 .1 .0) (after-duplicate-side .duplicate-side .result) (after-duplicate-side .duplicate-side .ensures)
+    (c .if3 .left) (after-duplicate-side .duplicate-side .last .1 .1 .0)
 
 add-v : tie.Need-add-v Inv-loop μ-loop
-add-v c = omega (arith, c .before .before .before .before .before .before .before .before .loop-test .taken)
+add-v c =
+    let in-loop : tie.In-loop Inv-loop μ-loop = search in
+    omega (arith, in-loop .loop-test .taken)
 
 loop-less : tie.Need-loop-less Inv-loop μ-loop
-loop-less c = omega (arith, c .before .before .before .before .before .before .before .before .loop-test .taken)
+loop-less c =
+    let in-loop : tie.In-loop Inv-loop μ-loop = search in
+    omega (arith, in-loop .loop-test .taken)
 
 loop-again : tie.Need-loop-again Inv-loop μ-loop
-loop-again c = matching-next (c .before .before .before .before .before .before .before .before .before .before .before .args .triangles .now)
-    (c .before .before .before .before .before .before .before .before .before .before .before .args .n)
-    (c .before .before .before .before .before .before .before .before .before .before .before .args .s .now)
-    (c .before .before .before .before .before .before .before .before .before .loop .s)
-    (c .before .before .before .before .before .before .mark-outgoing .last .1 .0)
-    (c .before .before .before .before .before .before .before .before .before .loop .v)
-    (c .before .before .before .before .before .before .before .before .loop-test .taken)
-    (c .before .before .before .before .before .before .before .before .before .loop .inv)
-    (c .before .before .before .before .before .before .mark-outgoing .result) (c .before .before .before .before .if1 .left)
-    (c .before .before .before .before .before .before .mark-outgoing .ensures) (c .before .before .match-incoming .last .1 .0)
-    (c .before .before .match-incoming .result) (c .before .before .match-incoming .ensures) (c .if2 .left)
-    (c .before .before .match-incoming .kept .1 .0 ∙ c .before .before .before .before .before .before .mark-outgoing .kept .1 .0)
+loop-again c =
+    let start : tie.Start Inv-loop μ-loop = search in
+    let at-loop : tie.At-loop Inv-loop μ-loop = search in
+    let in-loop : tie.In-loop Inv-loop μ-loop = search in
+    let after-mark-outgoing : tie.After-mark-outgoing Inv-loop μ-loop = search in
+    let else1 : tie.Else1 Inv-loop μ-loop = search in
+    let after-match-incoming : tie.After-match-incoming Inv-loop μ-loop = search in
+    matching-next (start .args .triangles .now)
+    (start .args .n)
+    (start .args .s .now)
+    (at-loop .loop .s)
+    (after-mark-outgoing .mark-outgoing .last .1 .0)
+    (at-loop .loop .v)
+    (in-loop .loop-test .taken)
+    (at-loop .loop .inv)
+    (after-mark-outgoing .mark-outgoing .result) (else1 .if1 .left)
+    (after-mark-outgoing .mark-outgoing .ensures) (after-match-incoming .match-incoming .last .1 .0)
+    (after-match-incoming .match-incoming .result) (after-match-incoming .match-incoming .ensures) (c .if2 .left)
+    (after-match-incoming .match-incoming .kept .1 .0 ∙ after-mark-outgoing .mark-outgoing .kept .1 .0)
 
 same-length-4 : tie.Need-same-length-4 Inv-loop μ-loop
 same-length-4 c = c .before .loop .inv .long
 
 returns-4 : tie.Need-returns-4 Inv-loop μ-loop
-returns-4 c = matching-none (c .before .before .before .args .triangles .now) (c .before .before .before .args .n) (c .before .before .before .args .s .now)
+returns-4 c =
+    let start : tie.Start Inv-loop μ-loop = search in
+    matching-none (start .args .triangles .now) (start .args .n) (start .args .s .now)
     (c .before .loop .s) (c .before .loop .v) (c .loop-test .left) (c .before .loop .inv)
 
 pub match-sides-spec : {M : Type 1} → statement M

@@ -18,64 +18,79 @@ prev-dart-requires : tie.Need-prev-dart-requires
 prev-dart-requires c κs = search needs
 
 prev-dart-requires-2 : tie.Need-prev-dart-requires-2
-prev-dart-requires-2 c κs = c .before .before .before .before .get-head .ensures .1
+prev-dart-requires-2 c κs =
+    let after-get-head : tie.After-get-head = search in
+    after-get-head .get-head .ensures .1
 
 set-op-requires : tie.Need-set-op-requires
-set-op-requires c κs = (
-  omega (
-    arith,
-    c .before .prev-dart .ensures,
-    c .before .before .before .before .before .before .before .before .before .pre .space .link
-        (c .before .before .before .before .before .before .before .before .before .args .d)
-        (c .before .before .before .before .before .before .before .before .before .pre .dart),
-  ),
-  prev-small (c .before .before .before .before .before .get-head .result) (c .prev-dart2 .result) (c .prev-dart2 .ensures)
-      (omega (
+set-op-requires c κs =
+    let start : tie.Start = search in
+    let after-origin : tie.After-origin = search in
+    let after-get-head : tie.After-get-head = search in (
+      omega (
         arith,
-        c .before .before .before .before .before .get-head .ensures .0,
-        c .before .before .before .before .before .before .before .before .before .pre .heads
-            (c .before .before .before .before .before .before .before .origin .result),
-        c .before .before .before .before .before .before .before .before .before .pre .few,
-      )),
-)
+        c .before .prev-dart .ensures,
+        start .pre .space .link
+            (start .args .d)
+            (start .pre .dart),
+      ),
+      prev-small (after-get-head .get-head .result) (c .prev-dart2 .result) (c .prev-dart2 .ensures)
+          (omega (
+            arith,
+            after-get-head .get-head .ensures .0,
+            start .pre .heads
+                (after-origin .origin .result),
+            start .pre .few,
+          )),
+    )
 
 set-head-requires : tie.Need-set-head-requires
-set-head-requires c κs = (
-  omega (
-    arith,
-    c .before .before .before .before .before .before .before .before .before .before .origin .ensures .0,
-    c .before .before .before .before .before .before .before .before .before .before .before .before .pre .space .vertex
-        (c .before .before .before .before .before .before .before .before .before .before .before .before .args .d),
-    c .before .before .set-op .kept .0,
-  ),
-  omega (
-    arith,
-    c .before .before .before .before .before .before .before .before .before .before .before .before .pre .dart,
-    c .before .before .before .before .before .before .before .before .before .before .before .before .pre .few,
-  ),
-)
+set-head-requires c κs =
+    let start : tie.Start = search in
+    let after-origin : tie.After-origin = search in
+    let after-set-op : tie.After-set-op = search in (
+      omega (
+        arith,
+        after-origin .origin .ensures .0,
+        start .pre .space .vertex
+            (start .args .d),
+        after-set-op .set-op .kept .0,
+      ),
+      omega (
+        arith,
+        start .pre .dart,
+        start .pre .few,
+      ),
+    )
 
 add-set-count : tie.Need-add-set-count
-add-set-count c = omega (arith, c .before .before .before .before .before .before .before .before .before .get-count .ensures .1)
+add-set-count c =
+    let after-get-count : tie.After-get-count = search in
+    omega (arith, after-get-count .get-count .ensures .1)
 
 set-count-requires : tie.Need-set-count-requires
-set-count-requires c κs = (
-  omega (
-    arith,
-    c .before .before .before .before .before .before .before .before .before .before .before .before .before .origin .ensures .0,
-    c .before .before .before .before .before .before .before .before .before .before .before .before .before .before .before .pre .space .vertex
-        (c .before .before .before .before .before .before .before .before .before .before .before .before .before .before .before .args .d),
-    c .before .before .before .before .before .set-op .kept .0,
-    c .before .before .set-head .kept .0,
-  ),
-  omega (
-    arith,
-    c .before .before .before .before .before .before .before .before .before .get-count .ensures .0,
-    c .before .before .before .before .before .before .before .before .before .before .before .before .before .before .before .pre .count
-        (c .before .before .before .before .before .before .before .before .before .before .before .before .before .origin .result),
-    c .before .before .before .before .before .before .before .before .before .before .before .before .before .before .before .pre .few,
-  ),
-)
+set-count-requires c κs =
+    let start : tie.Start = search in
+    let after-origin : tie.After-origin = search in
+    let after-get-count : tie.After-get-count = search in
+    let after-set-op : tie.After-set-op = search in
+    let after-set-head : tie.After-set-head = search in (
+      omega (
+        arith,
+        after-origin .origin .ensures .0,
+        start .pre .space .vertex
+            (start .args .d),
+        after-set-op .set-op .kept .0,
+        after-set-head .set-head .kept .0,
+      ),
+      omega (
+        arith,
+        after-get-count .get-count .ensures .0,
+        start .pre .count
+            (after-origin .origin .result),
+        start .pre .few,
+      ),
+    )
 
 same-length : tie.Need-same-length
 same-length c = search needs

@@ -2,8 +2,8 @@
 use native.Mathlib.Omega.{arith}
 use Rattle.scratch_tables.specs.Tables.{tablesOf}
 use Rattle.repair_model.specs.PackedWords.{withRim}
-use Rattle.repair_preorder.specs.ForestOfMesh.{preorderable}
-use Rattle.repair_loop.specs.Start.{packable, all-ready, loopable}
+use Rattle.repair_preorder.specs.ForestOfMesh.{preorder-pre}
+use Rattle.repair_loop.specs.Start.{pack-pre, all-ready, loop-pre}
 use borrow.Author.Needs.{needs}
 use Rattle.repair_loop.proofs.repair_labelled.Statement.{statement}
 use Rattle.repair_loop.proofs.repair_labelled.Tie as tie
@@ -11,13 +11,13 @@ use Rattle.repair_loop.proofs.repair_labelled.Tie as tie
 pack-words-requires : tie.Need-pack-words-requires
 pack-words-requires c κs =
     let start : tie.Start = search in
-    packable _ _ (start .pre .labels) _ (start .pre .peeled) (start .pre .room)
+    pack-pre _ _ (start .pre .labels) _ (start .pre .peeled) (start .pre .room)
 
 build-preorders-requires : tie.Need-build-preorders-requires
 build-preorders-requires c κs =
     let start : tie.Start = search in
     let packed : tie.After-pack-words = search in
-    preorderable (start .pre .peeled) _ (packed .pack-words .ensures .0) (omega arith)
+    preorder-pre (start .pre .peeled) _ (packed .pack-words .ensures .0) (omega arith)
 
 run-loop-requires : tie.Need-run-loop-requires
 run-loop-requires c κs =
@@ -26,7 +26,7 @@ run-loop-requires c κs =
     let packed : tie.After-pack-words = search in
     let built : tie.After-build-preorders = search in
     let summed : tie.After-sum-of-absolutes = search in
-    loopable _ _ _ _ _ (packed .pack-words .ensures .0) (packed .pack-words .ensures .1) (built .build-preorders .ensures (withRim _ (tablesOf _))) _ _ _ _
+    loop-pre _ _ _ _ _ (packed .pack-words .ensures .0) (packed .pack-words .ensures .1) (built .build-preorders .ensures (withRim _ (tablesOf _))) _ _ _ _
     (start .pre) (cc) (drawn .write-coordinates .ensures (start .pre .labels) (start .pre .peeled)) (summed .sum-of-absolutes .ensures)
 
 returns : tie.Need-returns

@@ -38,7 +38,7 @@ add-raise-requires : tie.Need-add-raise-requires
 add-raise-requires c κs =
     let start : tie.Start = search in
     let after-raise-at : tie.After-raise-at = search in
-    rw (held _ (after-raise-at .raise-at .ok), after-raise-at .raise-at .ensures .0) (start .pre .updatable)
+    rw (held _ (after-raise-at .raise-at .ok), after-raise-at .raise-at .ensures .0) (start .pre .update-pre)
 
 returns-2 : tie.Need-returns-2
 returns-2 c = search (held, added, tried-made)

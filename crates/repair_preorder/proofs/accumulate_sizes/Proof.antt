@@ -4,7 +4,7 @@ use native.Mathlib.Omega.{arith}
 use mathlib.Core.Path.{_≡_, refl}
 use Prim.Native.Nat.{_-_, _≤_}
 use Rattle.repair_preorder.specs.Model.{upward, addSize}
-use Rattle.repair_preorder.specs.LoopInvariants.{Up, up-next, up-passable, parent-low, odd-add}
+use Rattle.repair_preorder.specs.LoopInvariants.{Up, up-next, up-pass-pre, parent-low, odd-add}
 use Rattle.repair_preorder.proofs.accumulate_sizes.Statement.{statement}
 use Rattle.repair_preorder.proofs.accumulate_sizes.Tie as tie
 
@@ -23,7 +23,7 @@ add-size-requires c κs =
     let start : tie.Start Inv-loop μ-loop = search in
     let at-loop : tie.At-loop Inv-loop μ-loop = search in
     let a = start .args in let l = at-loop .loop in
-    let P = up-passable (addSize (a .colour)) (a .scratch .now) (l .scratch) (l .k) (l .inv .1) (a .n) (odd-add (a .colour)) (start .pre) in
+    let P = up-pass-pre (addSize (a .colour)) (a .scratch .now) (l .scratch) (l .k) (l .inv .1) (a .n) (odd-add (a .colour)) (start .pre) in
     (omega (arith, P .few, c .before .loop-test .taken), omega (arith, parent-low (a .colour) (l .k) P (c .before .loop-test .taken), P .room))
 
 loop-again : tie.Need-loop-again Inv-loop μ-loop

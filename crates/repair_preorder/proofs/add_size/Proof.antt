@@ -2,7 +2,7 @@
 use native.Mathlib.Omega.{arith}
 use Rattle.scratch_tables.specs.Tables.{tablesOf}
 use Rattle.repair_preorder.specs.Model.{parent}
-use Rattle.repair_preorder.specs.LoopInvariants.{field-room, add-is}
+use Rattle.repair_preorder.specs.LoopInvariants.{field-room, addSize-is}
 use borrow.Author.Needs.{needs}
 use Rattle.repair_preorder.proofs.add_size.Statement.{statement}
 use Rattle.repair_preorder.proofs.add_size.Tie as tie
@@ -13,7 +13,7 @@ set-subtree-size-requires c κs =
     (search (field-room (parent (start .args .colour))), omega arith, omega arith)
 
 returns : tie.Need-returns
-returns c = search (tablesOf, add-is)
+returns c = search (tablesOf, addSize-is)
 
 pub add-size-spec : {M : Type 1} → statement M
 add-size-spec =

@@ -3,7 +3,7 @@ use native.Mathlib.Omega.{arith}
 use Rattle.scratch_tables.specs.Tables.{tablesOf}
 use Rattle.repair_model.specs.PackedWords.{field0}
 use Rattle.repair_preorder.specs.Model.{parent}
-use Rattle.repair_preorder.specs.LoopInvariants.{field-room, takes-is}
+use Rattle.repair_preorder.specs.LoopInvariants.{field-room, allocateRange-is}
 use borrow.Author.Needs.{needs}
 use Rattle.repair_preorder.proofs.allocate_range.Statement.{statement}
 use Rattle.repair_preorder.proofs.allocate_range.Tie as tie
@@ -20,7 +20,7 @@ set-range-end-requires-2 c κs =
     (omega arith, omega arith)
 
 returns : tie.Need-returns
-returns c = search (tablesOf, takes-is)
+returns c = search (tablesOf, allocateRange-is)
 
 pub allocate-range-spec : {M : Type 1} → statement M
 allocate-range-spec =

@@ -3,7 +3,7 @@ use borrow.Author.Needs.{needs}
 use native.Mathlib.Omega.{arith}
 use Prim.Native.Nat.{_-_}
 use Rattle.repair_preorder.specs.Model.{allocateRange}
-use Rattle.repair_preorder.specs.LoopInvariants.{Down, down-next, down-ends, down-passable, parent-low, odd-takes}
+use Rattle.repair_preorder.specs.LoopInvariants.{Down, down-next, down-ends, down-pass-pre, parent-low, odd-allocate}
 use Rattle.repair_preorder.proofs.allocate_ranges.Statement.{statement}
 use Rattle.repair_preorder.proofs.allocate_ranges.Tie as tie
 
@@ -24,14 +24,14 @@ allocate-range-requires c κs =
     let start : tie.Start Inv-loop μ-loop = search in
     let at-loop : tie.At-loop Inv-loop μ-loop = search in
     let a = start .args in let l = at-loop .loop in
-    let P = down-passable (allocateRange (a .colour)) (a .n - 2) (a .scratch .now) (l .scratch) (l .k) (l .inv) (a .n) (start .pre) in (
+    let P = down-pass-pre (allocateRange (a .colour)) (a .n - 2) (a .scratch .now) (l .scratch) (l .k) (l .inv) (a .n) (start .pre) in (
       omega (arith, P .few, l .inv .low),
       omega (arith, P .removed (l .k - 1) (omega (arith, l .inv .low, c .before .loop-test .taken)), P .room),
       omega (arith, parent-low (a .colour) (l .k - 1) P (omega (arith, l .inv .low, c .before .loop-test .taken)), P .room),
     )
 
 loop-again : tie.Need-loop-again Inv-loop μ-loop
-loop-again c = search (allocateRange, down-next, odd-takes)
+loop-again c = search (allocateRange, down-next, odd-allocate)
 
 returns : tie.Need-returns Inv-loop μ-loop
 returns c =

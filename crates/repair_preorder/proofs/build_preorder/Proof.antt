@@ -1,7 +1,7 @@
 -- `repair_preorder::build_preorder` meets its contract, from those of the passes. Assumes nothing.
 use borrow.Author.Needs.{needs}
 use Rattle.scratch_tables.specs.Tables.{tablesOf}
-use Rattle.repair_preorder.specs.LoopInvariants.{built-is, sizes-pass, positions-pass, ranges-pass}
+use Rattle.repair_preorder.specs.LoopInvariants.{preorderBuilt-is, sizes-pass, positions-pass, ranges-pass}
 use Rattle.repair_preorder.proofs.build_preorder.Statement.{statement}
 use Rattle.repair_preorder.proofs.build_preorder.Tie as tie
 
@@ -27,7 +27,7 @@ store-vertices-requires c κs =
     ranges-pass _ _ _ (ranges .store-ranges .ensures) (ranges .store-ranges .kept .1 .0) placed
 
 returns : tie.Need-returns
-returns c = search (tablesOf, built-is)
+returns c = search (tablesOf, preorderBuilt-is)
 
 pub build-preorder-spec : {M : Type 1} → statement M
 build-preorder-spec =

@@ -18,7 +18,7 @@ returns c =
     let after-vertex : tie.After-origin = search in
     let after-sow : tie.After-build-preorder = search in
     let after-vertex2 : tie.After-origin2 = search in
-    λ T L I R. let a = start .args in preordered (start .pre .passable .some) R L I (after-sow .build-preorder .ensures
+    λ T L I R. let a = start .args in preordered (start .pre .pass-pre .some) R L I (after-sow .build-preorder .ensures
     ∙ ap (λ (v : ℕ). preorderBuilt (a .n) 0 v (tablesOf (a .scratch .now))) (after-vertex .origin .ensures .0)) (c .before .build-preorder2 .ensures
     ∙ ap (λ (v : ℕ). preorderBuilt (a .n) 1 v (tablesOf (after-sow .build-preorder .last .1 .0))) (after-vertex2 .origin2 .ensures .0))
 

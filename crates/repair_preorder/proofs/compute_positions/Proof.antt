@@ -1,6 +1,6 @@
 -- `repair_preorder::compute_positions` meets its contract: the root's range ends where the preorder does, and the others are allocated in it. Assumes nothing.
 use Rattle.scratch_tables.specs.Tables.{tablesOf}
-use Rattle.repair_preorder.specs.LoopInvariants.{begin-is, placed-is, root-passes}
+use Rattle.repair_preorder.specs.LoopInvariants.{initRoot-is, positionsComputed-is, root-passes}
 use borrow.Author.Needs.{needs}
 use Rattle.repair_preorder.proofs.compute_positions.Statement.{statement}
 use Rattle.repair_preorder.proofs.compute_positions.Tie as tie
@@ -9,7 +9,7 @@ allocate-ranges-requires : tie.Need-allocate-ranges-requires
 allocate-ranges-requires c κs = search (tablesOf, root-passes)
 
 returns : tie.Need-returns
-returns c = search (tablesOf, begin-is, placed-is)
+returns c = search (tablesOf, initRoot-is, positionsComputed-is)
 
 pub compute-positions-spec : {M : Type 1} → statement M
 compute-positions-spec =

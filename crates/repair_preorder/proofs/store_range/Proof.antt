@@ -1,12 +1,12 @@
 -- `repair_preorder::store_range` meets its contract, from those of its calls. Assumes nothing.
 use Rattle.scratch_tables.specs.Tables.{tablesOf}
-use Rattle.repair_preorder.specs.LoopInvariants.{range-is}
+use Rattle.repair_preorder.specs.LoopInvariants.{storeRange-is}
 use borrow.Author.Needs.{needs}
 use Rattle.repair_preorder.proofs.store_range.Statement.{statement}
 use Rattle.repair_preorder.proofs.store_range.Tie as tie
 
 returns : tie.Need-returns
-returns c = search (tablesOf, range-is)
+returns c = search (tablesOf, storeRange-is)
 
 pub store-range-spec : {M : Type 1} → statement M
 store-range-spec =

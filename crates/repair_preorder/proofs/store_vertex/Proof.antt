@@ -1,12 +1,12 @@
 -- `repair_preorder::store_vertex` meets its contract, from those of its calls. Assumes nothing.
 use Rattle.scratch_tables.specs.Tables.{tablesOf}
-use Rattle.repair_preorder.specs.LoopInvariants.{seat-is}
+use Rattle.repair_preorder.specs.LoopInvariants.{storeVertex-is}
 use borrow.Author.Needs.{needs}
 use Rattle.repair_preorder.proofs.store_vertex.Statement.{statement}
 use Rattle.repair_preorder.proofs.store_vertex.Tie as tie
 
 returns : tie.Need-returns
-returns c = search (tablesOf, seat-is)
+returns c = search (tablesOf, storeVertex-is)
 
 pub store-vertex-spec : {M : Type 1} → statement M
 store-vertex-spec =

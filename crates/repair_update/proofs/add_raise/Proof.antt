@@ -1,12 +1,12 @@
 -- `repair_update::add_raise` meets its contract: the walk, and v0 and v1 by themselves. Assumes nothing.
 use mir.Facts.{toZ-ofZ}
-use Rattle.repair_update.specs.WalkLoop.{walkable, first-room, last-room, moved-all}
+use Rattle.repair_update.specs.WalkLoop.{walk-pre, first-room, last-room, moved-all}
 use borrow.Author.Needs.{needs}
 use Rattle.repair_update.proofs.add_raise.Statement.{statement}
 use Rattle.repair_update.proofs.add_raise.Tie as tie
 
 walk-requires : tie.Need-walk-requires
-walk-requires c κs = search (walkable, toZ-ofZ)
+walk-requires c κs = search (walk-pre, toZ-ofZ)
 
 add-at-requires : tie.Need-add-at-requires
 add-at-requires c κs =

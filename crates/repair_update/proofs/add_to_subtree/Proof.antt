@@ -3,20 +3,20 @@ use native.Mathlib.Omega.{arith}
 use Prim.Native.Nat.{_+_, _-_}
 use mathlib.Core.Path.{refl}
 use mir.Facts.{toZ-ofZ}
-use Rattle.repair_update.specs.WalkLoop.{subtree-rowable, subtree-followed, none-followed}
+use Rattle.repair_update.specs.WalkLoop.{subtree-range, subtree-added, none-added}
 use borrow.Author.Needs.{needs}
 use Rattle.repair_update.proofs.add_to_subtree.Statement.{statement}
 use Rattle.repair_update.proofs.add_to_subtree.Tie as tie
 
 returns : tie.Need-returns
 returns c = let f = c .before .field3 .ensures in
-    none-followed _ _ _ _ (search) (λ e. omega (arith, e, f, c .if1 .taken)) (λ e. omega (arith, e, f, c .if1 .taken))
+    none-added _ _ _ _ (search) (λ e. omega (arith, e, f, c .if1 .taken)) (λ e. omega (arith, e, f, c .if1 .taken))
 
 returns-2 : tie.Need-returns-2
 returns-2 c =
     let after-field3 : tie.After-field3 = search in
     let f = after-field3 .field3 .ensures in
-    none-followed _ _ _ _ (search) (λ e. omega (arith, e, f, c .if2 .taken)) (λ e. omega (arith, e, f, c .if2 .taken))
+    none-added _ _ _ _ (search) (λ e. omega (arith, e, f, c .if2 .taken)) (λ e. omega (arith, e, f, c .if2 .taken))
 
 add-to-range-requires : tie.Need-add-to-range-requires
 add-to-range-requires c κs =
@@ -28,7 +28,7 @@ add-to-range-requires c κs =
     let a = start .args in
     let f = after-field3 .field3 .result in
     rw (toZ-ofZ (start .fits .x))
-    (subtree-rowable (a .scratch .now) (a .coordinates .now) (a .w) (a .x) (start .pre) f
+    (subtree-range (a .scratch .now) (a .coordinates .now) (a .w) (a .x) (start .pre) f
     (after-preorder-start .preorder-start .result + after-field1 .field1 .result)
     (after-preorder-start .preorder-start .result + after-field1 .field1 .result + c .field2 .result) (2 - f)
     (after-field3 .field3 .ensures) (else1 .if1 .left) (omega arith)
@@ -44,7 +44,7 @@ returns-3 c =
     let after-field2 : tie.After-field2 = search in
     let a = start .args in
     let f = after-field3 .field3 .result in
-    subtree-followed (a .scratch .now) (a .coordinates .now) (a .w) (a .x) (start .pre) f
+    subtree-added (a .scratch .now) (a .coordinates .now) (a .w) (a .x) (start .pre) f
     (after-preorder-start .preorder-start .result + after-field1 .field1 .result)
     (after-preorder-start .preorder-start .result + after-field1 .field1 .result +
     after-field2 .field2 .result) (2 - f) (after-field3 .field3 .ensures)

@@ -3,7 +3,7 @@ use Prim.Native.Nat.{ℕ}
 use mathlib.Core.Path.{ap, _∙_, subst}
 use mir.Facts.{toZ-ofZ}
 use Rattle.repair_model.specs.PackedWords.{field0}
-use Rattle.repair_update.specs.WalkLoop.{Movable, Followed}
+use Rattle.repair_update.specs.WalkLoop.{SubtreePre, SubtreeAdded}
 use borrow.Author.Needs.{needs}
 use Rattle.repair_update.proofs.step.Statement.{statement}
 use Rattle.repair_update.proofs.step.Tie as tie
@@ -12,7 +12,7 @@ add-to-subtree-requires : tie.Need-add-to-subtree-requires
 add-to-subtree-requires c κs =
     let start : tie.Start = search in
     let a = start .args in
-    rw (toZ-ofZ (start .fits .x)) (subst (λ (w : ℕ). Movable (a .scratch .now) (a .coordinates .now) w (a .x)) (cc) (start .pre .1))
+    rw (toZ-ofZ (start .fits .x)) (subst (λ (w : ℕ). SubtreePre (a .scratch .now) (a .coordinates .now) w (a .x)) (cc) (start .pre .1))
 
 returns : tie.Need-returns
 returns c =
@@ -21,7 +21,7 @@ returns c =
     let after-add-to-subtree : tie.After-add-to-subtree = search in
     let a = start .args in (
       c .field0 .ensures .0 ∙ ap field0 (after-walk-at .walk-at .ensures .0),
-      subst (λ (w : ℕ). Followed (a .scratch .now) w (a .x) (a .coordinates .now) (after-add-to-subtree .add-to-subtree .last .0))
+      subst (λ (w : ℕ). SubtreeAdded (a .scratch .now) w (a .x) (a .coordinates .now) (after-add-to-subtree .add-to-subtree .last .0))
           (after-walk-at .walk-at .ensures .0)
           (rw (toZ-ofZ (start .fits .x)) at (after-add-to-subtree .add-to-subtree .ensures)),
     )

@@ -1,12 +1,12 @@
 -- `repair_words::corner_word` meets its contract, from those of its calls. Assumes nothing.
 use Rattle.scratch_tables.specs.Tables.{tablesOf}
-use Rattle.repair_words.specs.LoopInvariants.{corner-word-is}
+use Rattle.repair_words.specs.LoopInvariants.{cornerWord-is}
 use borrow.Author.Needs.{needs}
 use Rattle.repair_words.proofs.corner_word.Statement.{statement}
 use Rattle.repair_words.proofs.corner_word.Tie as tie
 
 returns : tie.Need-returns
-returns c = search (tablesOf, corner-word-is)
+returns c = search (tablesOf, cornerWord-is)
 
 pub corner-word-spec : {M : Type 1} → statement M
 corner-word-spec =

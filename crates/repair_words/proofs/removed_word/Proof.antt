@@ -1,12 +1,12 @@
 -- `repair_words::removed_word` meets its contract, from those of its calls. Assumes nothing.
 use Rattle.scratch_tables.specs.Tables.{tablesOf}
-use Rattle.repair_words.specs.LoopInvariants.{removed-word-is}
+use Rattle.repair_words.specs.LoopInvariants.{removedWord-is}
 use borrow.Author.Needs.{needs}
 use Rattle.repair_words.proofs.removed_word.Statement.{statement}
 use Rattle.repair_words.proofs.removed_word.Tie as tie
 
 returns : tie.Need-returns
-returns c = search (tablesOf, removed-word-is)
+returns c = search (tablesOf, removedWord-is)
 
 pub removed-word-spec : {M : Type 1} → statement M
 removed-word-spec =

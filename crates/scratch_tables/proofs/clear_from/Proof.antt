@@ -28,17 +28,20 @@ loop-less : tie.Need-loop-less Inv-loop μ-loop
 loop-less c = simp length-set (omega arith)
 
 loop-again : tie.Need-loop-again Inv-loop μ-loop
-loop-again c = (
-  cleared-more (c .before .before .args .s .now) (c .before .loop .s) (c .before .before .args .k) (c .before .loop .i)
-      (c .before .loop .inv .1) (c .loop-test .taken) (c .before .loop .inv .0),
-  omega (arith, c .before .loop .inv .1),
-)
+loop-again c =
+    let start : tie.Start Inv-loop μ-loop = search in (
+      cleared-more (start .args .s .now) (c .before .loop .s) (start .args .k) (c .before .loop .i)
+          (c .before .loop .inv .1) (c .loop-test .taken) (c .before .loop .inv .0),
+      omega (arith, c .before .loop .inv .1),
+    )
 
 same-length : tie.Need-same-length Inv-loop μ-loop
 same-length c = c .before .loop .inv .0 .long
 
 returns : tie.Need-returns Inv-loop μ-loop
-returns c = cleared-end (c .before .before .args .s .now) (c .before .loop .s) (c .before .before .args .k) (c .before .loop .i) (c .loop-test .left)
+returns c =
+    let start : tie.Start Inv-loop μ-loop = search in
+    cleared-end (start .args .s .now) (c .before .loop .s) (start .args .k) (c .before .loop .i) (c .loop-test .left)
     (c .before .loop .inv .0)
 
 pub clear-from-spec : {M : Type 1} → statement M

@@ -17,7 +17,8 @@ load-requires c κs = search needs
 
 returns : tie.Need-returns
 returns c =
-    (c .load .ensures .0 ∙ sym (count-in (c .before .before .args .s .now) (c .before .before .args .v) (c .before .if1 .taken)), c .load .ensures .1)
+    let start : tie.Start = search in
+    (c .load .ensures .0 ∙ sym (count-in (start .args .s .now) (start .args .v) (c .before .if1 .taken)), c .load .ensures .1)
 
 returns-2 : tie.Need-returns-2
 returns-2 c = (count-past (c .before .args .s .now) (c .before .args .v) (c .if1 .left), omega arith)

@@ -15,14 +15,17 @@ mark-index-requires c κs = search needs
 
 load-requires : tie.Need-load-requires
 load-requires c κs =
-    omega (arith, c .mark-index .ensures, mark-index (length (c .before .before .args .s .now)) (c .before .before .args .t) (c .before .if1 .taken))
+    let start : tie.Start = search in
+    omega (arith, c .mark-index .ensures, mark-index (length (start .args .s .now)) (start .args .t) (c .before .if1 .taken))
 
 returns : tie.Need-returns
-returns c = (
-  c .load .ensures .0 ∙ ap (wordAt (c .before .before .before .args .s .now)) (c .before .mark-index .ensures)
-      ∙ sym (mark-in (c .before .before .before .args .s .now) (c .before .before .before .args .t) (c .before .before .if1 .taken)),
-  c .load .ensures .1,
-)
+returns c =
+    let start : tie.Start = search in
+    let then1 : tie.Then1 = search in (
+      c .load .ensures .0 ∙ ap (wordAt (start .args .s .now)) (c .before .mark-index .ensures)
+          ∙ sym (mark-in (start .args .s .now) (start .args .t) (then1 .if1 .taken)),
+      c .load .ensures .1,
+    )
 
 returns-2 : tie.Need-returns-2
 returns-2 c = (mark-past (c .before .args .s .now) (c .before .args .t) (c .if1 .left), omega arith)

@@ -14,7 +14,8 @@ load-requires c κs = search needs
 
 returns : tie.Need-returns
 returns c =
-    (c .load .ensures .0 ∙ sym (op-in (c .before .before .args .s .now) (c .before .before .args .d) (c .before .if1 .taken)), c .load .ensures .1)
+    let start : tie.Start = search in
+    (c .load .ensures .0 ∙ sym (op-in (start .args .s .now) (start .args .d) (c .before .if1 .taken)), c .load .ensures .1)
 
 returns-2 : tie.Need-returns-2
 returns-2 c = (op-past (c .before .args .s .now) (c .before .args .d) (c .if1 .left), omega arith)

@@ -22,7 +22,8 @@ to-usize-requires c κs = search needs
 returns : tie.Need-returns
 unfolding wordAt
 returns c =
-    let f : SFits w64 (getD (c .before .before .args .s .now) (c .before .before .args .i) (pos 0)) = record { sfits = c .before .to-usize-arg .given } in
+    let start : tie.Start = search in
+    let f : SFits w64 (getD (start .args .s .now) (start .args .i) (pos 0)) = record { sfits = c .before .to-usize-arg .given } in
     (c .to-usize .ensures .0 ∙ ap toNatural (toZ-ofZ f), c .to-usize .ensures .1)
 
 pub load-spec : {M : Type 1} → statement M

@@ -22,7 +22,9 @@ returns c = (c .widen .ensures .0, c .widen .ensures .1)
 
 returns-2 : tie.Need-returns-2
 unfolding org
-returns-2 c = (sym (List·getD-eq-default (c .before .before .args .triangles .now) 0 (c .if1 .left)), omega arith)
+returns-2 c =
+    let start : tie.Start = search in
+    (sym (List·getD-eq-default (start .args .triangles .now) 0 (c .if1 .left)), omega arith)
 
 pub origin-spec : {M : Type 1} → statement M
 origin-spec = tie.close (tie.spec mul-widen shared-slice-read-widen widen-requires returns returns-2)

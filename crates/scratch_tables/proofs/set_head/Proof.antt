@@ -19,8 +19,9 @@ same-length c = search needs
 
 returns : tie.Need-returns
 returns c =
-    ap tablesOf (c .before .store .ensures) ∙ tablesOf-head (c .before .before .before .args .s .now) (c .before .before .before .args .v)
-    (c .before .before .before .args .x) (c .before .before .before .pre .0)
+    let start : tie.Start = search in
+    ap tablesOf (c .before .store .ensures) ∙ tablesOf-head (start .args .s .now) (start .args .v)
+    (start .args .x) (start .pre .0)
 
 pub set-head-spec : {M : Type 1} → statement M
 set-head-spec = tie.close (tie.spec mul-store add-store store-requires same-length returns)

@@ -13,20 +13,23 @@ mark-index-requires : tie.Need-mark-index-requires
 mark-index-requires c κs = search needs
 
 store-requires : tie.Need-store-requires
-store-requires c κs = (
-  omega (arith, c .mark-index .ensures, mark-index (length (c .before .before .args .s .now)) (c .before .before .args .t) (c .before .before .pre .0)),
-  c .before .before .pre .1,
-)
+store-requires c κs =
+    let start : tie.Start = search in (
+      omega (arith, c .mark-index .ensures, mark-index (length (start .args .s .now)) (start .args .t) (start .pre .0)),
+      start .pre .1,
+    )
 
 same-length : tie.Need-same-length
 same-length c = search needs
 
 returns : tie.Need-returns
 returns c =
+    let start : tie.Start = search in
+    let after-mark-index : tie.After-mark-index = search in
     ap tablesOf (c .before .store .ensures) ∙ ap (λ (k : ℕ). tablesOf
-    (set (c .before .before .before .before .args .s .now) k (pos (c .before .before .before .before .args .x)))) (c .before .before .mark-index .ensures)
-    ∙ tablesOf-mark (c .before .before .before .before .args .s .now) (c .before .before .before .before .args .t)
-    (c .before .before .before .before .args .x) (c .before .before .before .before .pre .0)
+    (set (start .args .s .now) k (pos (start .args .x)))) (after-mark-index .mark-index .ensures)
+    ∙ tablesOf-mark (start .args .s .now) (start .args .t)
+    (start .args .x) (start .pre .0)
 
 pub set-mark-spec : {M : Type 1} → statement M
 set-mark-spec = tie.close (tie.spec mark-index-requires store-requires same-length returns)

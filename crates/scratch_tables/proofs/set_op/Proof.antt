@@ -13,8 +13,9 @@ same-length c = search needs
 
 returns : tie.Need-returns
 returns c =
-    ap tablesOf (c .before .store .ensures) ∙ tablesOf-op (c .before .before .before .args .s .now) (c .before .before .before .args .d)
-    (c .before .before .before .args .x) (c .before .before .before .pre .0)
+    let start : tie.Start = search in
+    ap tablesOf (c .before .store .ensures) ∙ tablesOf-op (start .args .s .now) (start .args .d)
+    (start .args .x) (start .pre .0)
 
 pub set-op-spec : {M : Type 1} → statement M
 set-op-spec = tie.close (tie.spec store-requires same-length returns)
