@@ -1,14 +1,15 @@
 -- Whole numbers that fit 64 bits, by their absolute values, and the tests of the code. Assumes nothing.
-use Prim.Native.Nat.{ℕ, zero, suc, _+_, _*_, _≤_, _<_, _^_}
+use Prim.Native.Nat.{ℕ, zero, suc, _+_, _-_, _*_, _≤_, _<_, _^_}
 use mathlib.Core.Path.{_≡_, refl}
 use mathlib.Core.Bool.{true, false}
 use native.Mathlib.Omega.{arith}
+use native.Mathlib.Decide.{decLt}
 use lib.Dec.{T}
-use lib.IntN.{ℤ, pos, negsuc, negℤ, natAbs, _-ℤ_, _*ℤ_}
+use lib.IntN.{ℤ, pos, negsuc, negℤ, natAbs, _+ℤ_, _-ℤ_, _*ℤ_}
 use lib.Signed.{mag, ltZ, leZ, nonNeg}
 use mir.Syntax.{w64}
 use mir.Val.{SFits, toZ, ofZ}
-use mir.Facts.{toZ-ofZ}
+use mir.Facts.{toZ-ofZ, toZ-pos}
 use borrow.Author.Tests.{le-ltb}
 use Rattle.laws.specs.Integers.{up, dn, ≡z, z-}
 use Rattle.laws.specs.Sums.{abs-+}
@@ -69,3 +70,41 @@ abs-range (negsuc n) h = h .sfits
 -- a number that fits is what its 64 bits stand for
 pub held : (z : ℤ) → mag z < 2 ^ 63 → toZ w64 (ofZ w64 z) ≡ z
 held z h = toZ-ofZ (record { sfits = h })
+
+-- ---- what a call gave, read back from its bits
+
+-- `search values` follows what each call says of its result: a signed result or argument is what the calls behind it say
+pub held-is : (r z : ℤ) → mag r < 2 ^ 63 → r ≡ z → toZ w64 (ofZ w64 r) ≡ z
+held-is r z h e = cc (held r h)
+
+module _ (r s t x y : ℤ) (h : mag r < 2 ^ 63) where
+  pub plus-is : r ≡ s +ℤ t → s ≡ x → t ≡ y → toZ w64 (ofZ w64 r) ≡ x +ℤ y
+  plus-is e f g = rw (held r h, e, f, g)
+
+  pub minus-is : r ≡ s -ℤ t → s ≡ x → t ≡ y → toZ w64 (ofZ w64 r) ≡ x -ℤ y
+  minus-is e f g = rw (held r h, e, f, g)
+
+  pub times-is : r ≡ s *ℤ t → s ≡ x → t ≡ y → toZ w64 (ofZ w64 r) ≡ x *ℤ y
+  times-is e f g = rw (held r h, e, f, g)
+
+pub ruleset values = (held-is, plus-is, minus-is, times-is)
+
+-- no further from 0 than it was, whether or not it fits
+read-size : (n m : ℕ) → (n < 2 ^ 63 → n ≤ m) → (2 ^ 63 ≤ n → suc (2 ^ 64 - suc n) ≤ m) → natAbs (toZ w64 n) ≤ m
+read-size n m f g = elim (decLt n (2 ^ 63)) [
+  | yes h ↦ rw (toZ-pos w64 {n = n} h) (f h)
+  | no h ↦ rw (le-ltb n (2 ^ 63) (omega (arith, h))) (g (omega (arith, h)))
+]
+
+pub held-size : (z : ℤ) → natAbs (toZ w64 (ofZ w64 z)) ≤ natAbs z
+held-size (pos n) = read-size n n (λ h. omega arith) (λ h. omega arith)
+held-size (negsuc n) = read-size (2 ^ 64 - suc n) (suc n) (λ h. omega arith) (λ h. omega arith)
+
+-- `omega sizes` reads that of each result of which a call says what it is, and of each argument
+pub result-size : (r z : ℤ) → r ≡ z → natAbs (toZ w64 (ofZ w64 r)) ≤ natAbs r
+result-size r z e = held-size r
+
+pub argument-size : (a : ℤ) → SFits w64 a → natAbs (toZ w64 (ofZ w64 a)) ≤ natAbs a
+argument-size a f = held-size a
+
+pub ruleset sizes = (arith, result-size, argument-size)

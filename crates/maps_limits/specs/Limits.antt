@@ -10,6 +10,8 @@ use lib.Dec.{ltb}
 use lib.ListN.{length, getD, drop, drop-of-length-le, List·getD-eq-default}
 use lib.Seq.{drop-cons}
 use lib.IntN.{ℤ, pos, natAbs, _+ℤ_}
+use mir.Syntax.{w64}
+use mir.Val.{toZ, ofZ}
 use borrow.Author.Tests.{lt-ltb, le-ltb, ltb-false}
 use Rattle.definitions.specs.Lists.{totalAbs}
 use Rattle.definitions.specs.Mesh.{org}
@@ -18,6 +20,7 @@ use Rattle.definitions.specs.Backward.{coordinate}
 use Rattle.definitions.specs.Repair.{limit}
 use Rattle.definitions.specs.Refusals.{eqZ, hasCoordinates, row9, row10, row11, row12}
 use Rattle.laws.specs.Lists.{in-getD, getD-in, true-any, any-false, false-any, in-upto, none-upto}
+use Rattle.int64.specs.Whole.{held-size}
 
 -- ---- row 9: the absolute values of the first i weights have been summed
 
@@ -74,6 +77,10 @@ range bs e k = elim (decLt k (length bs)) [
 pub coordinate-range : (bs : List ℤ) → row10 bs ≡ false → (c i : ℕ) → natAbs (coordinate bs c i) ≤ limit
 unfolding coordinate
 coordinate-range bs e c i = range bs e (3 * i + c)
+
+-- of a call's result that is a coordinate, read back from its bits, `omega` reads this
+pub coordinate-size : (bs : List ℤ) → row10 bs ≡ false → (x : ℤ) (c i : ℕ) → x ≡ coordinate bs c i → natAbs (toZ w64 (ofZ w64 x)) ≤ limit
+coordinate-size bs e x c i h = omega (arith, held-size x, rw (← h) at (coordinate-range bs e c i))
 
 -- ---- row 11: the tests in the code's order
 

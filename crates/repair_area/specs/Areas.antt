@@ -1,14 +1,16 @@
 -- The area number, the test for a bad triangle and the raise, by coordinates 0 and 1 of the vertices p, q, r at its corners labelled 0, 1, 2; that they are
 -- the definitions', and how large the numbers on the way get where no coordinate is past the limit. Assumes nothing.
-use Prim.Native.Nat.{ℕ, _+_, _*_, _≤_, _<_}
+use Prim.Native.Nat.{ℕ, _+_, _*_, _^_, _≤_, _<_, max}
 use mathlib.Core.Path.{_≡_}
 use mathlib.Core.Logic.{inl, inr}
 use mathlib.Core.Bool.{Bool, true, false}
 use mathlib.Core.List.{List}
 use native.Mathlib.Omega.{arith}
-use native.Mathlib.Nat.{mul-le-mul}
+use native.Mathlib.Nat.{le-trans, mul-le-mul}
 use lib.IntN.{ℤ, pos, natAbs, _+ℤ_, _-ℤ_, _*ℤ_}
-use lib.Signed.{leZ}
+use lib.Signed.{mag, leZ}
+use mir.Syntax.{w64}
+use mir.Val.{toZ, ofZ}
 use Rattle.definitions.specs.Backward.{coordinate}
 use Rattle.definitions.specs.Repair.{limit, maxZ, cornerCoordinate, area, bad, deficit, raise}
 use Rattle.definitions.specs.Refusals.{row10}
@@ -16,7 +18,7 @@ use Rattle.laws.specs.Integers.{int, z+, z-}
 use Rattle.laws.specs.Lists.{tested}
 use Rattle.laws.specs.Ring.{leZ-true, le-leZ, leZ-false, lt-leZ}
 use Rattle.laws.specs.Sums.{abs-+}
-use Rattle.int64.specs.Whole.{abs-minus}
+use Rattle.int64.specs.Whole.{abs-minus, held, held-size}
 use Rattle.maps_limits.specs.Limits.{coordinate-range}
 use Rattle.theory_realizer.specs.Units.{vertexAt}
 
@@ -132,15 +134,34 @@ module _ (ts ls : List ℕ) (bs : List ℤ) (t : ℕ) (e : row10 bs ≡ false) w
       let m = abs-max x (maxZ y z) (2 * limit) (deficit-small 0 1 2) (abs-max y z (2 * limit) (deficit-small 1 0 2) (deficit-small 2 0 1)) in
       omega (arith, abs-+ (pos 1) (maxZ x (maxZ y z)), m)
 
--- the tests of the code
-pub max-right : (a b : ℤ) → leZ a b ≡ true → b ≡ maxZ a b
-unfolding maxZ
-max-right a b h = rw h
+-- ---- the tests of the code, on numbers that are those of the definition
 
-pub max-left : (a b : ℤ) → leZ a b ≡ false → a ≡ maxZ a b
+pub max-right : (x y a b : ℤ) → leZ a b ≡ true → a ≡ x → b ≡ y → b ≡ maxZ x y
 unfolding maxZ
-max-left a b h = rw h
+max-right x y a b h e f = rw (← e, ← f, h)
 
--- a product of two growths
-pub square : (a b : ℕ) → a ≤ 2 * limit → b ≤ 2 * limit → a * b ≤ 4_611_686_009_837_453_316
-square a b h k = mul-le-mul h k
+pub max-left : (x y a b : ℤ) → leZ a b ≡ false → a ≡ x → b ≡ y → a ≡ maxZ x y
+unfolding maxZ
+max-left x y a b h e f = rw (← e, ← f, h)
+
+pub bad-is : (bs : List ℤ) (p q r : ℕ) (x : Bool) (a b : ℤ) → x ≡ leZ a b → a ≡ areaOf bs p q r → b ≡ pos 0 → x ≡ badOf bs p q r
+unfolding badOf
+bad-is bs p q r x a b h e f = rw (h, e, f)
+
+-- a product of two growths, read back from their bits
+pub square : (x y : ℤ) → natAbs x ≤ 2 * limit → natAbs y ≤ 2 * limit →
+    natAbs (toZ w64 (ofZ w64 x)) * natAbs (toZ w64 (ofZ w64 y)) ≤ 4_611_686_009_837_453_316
+square x y h k = mul-le-mul (le-trans (held-size x) h) (le-trans (held-size y) k)
+
+-- ---- what `product` and `greater` give, read back from its bits
+
+pub product-is : (r a b c d x y z w : ℤ) → mag r < 2 ^ 63 → r ≡ (a -ℤ b) *ℤ (c -ℤ d) → a ≡ x → b ≡ y → c ≡ z → d ≡ w →
+    toZ w64 (ofZ w64 r) ≡ (x -ℤ y) *ℤ (z -ℤ w)
+product-is r a b c d x y z w h e f g i j = rw (held r h, e, f, g, i, j)
+
+pub max-is : (r a b x y : ℤ) → mag r < 2 ^ 63 → r ≡ maxZ a b → a ≡ x → b ≡ y → toZ w64 (ofZ w64 r) ≡ maxZ x y
+max-is r a b x y h e f g = rw (held r h, e, f, g)
+
+-- `omega` reads this of a result of `greater`
+pub max-size : (r a b : ℤ) → r ≡ maxZ a b → natAbs (toZ w64 (ofZ w64 r)) ≤ max (natAbs a) (natAbs b)
+max-size r a b e = let h = abs-max a b (max (natAbs a) (natAbs b)) (omega arith) (omega arith) in omega (arith, held-size r, rw (← e) at h)
