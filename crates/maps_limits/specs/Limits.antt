@@ -1,6 +1,6 @@
 -- Rows 9 to 12 as the code meets them: entry by entry, vertex by vertex. Assumes nothing.
 use Prim.Native.Nat.{ℕ, _+_, _*_, _≤_, _<_}
-use mathlib.Core.Path.{_≡_, sym, _∙_}
+use mathlib.Core.Path.{_≡_, refl, sym, _∙_}
 use mathlib.Core.Bool.{Bool, true, false, not, _&&_}
 use mathlib.Core.List.{List}
 use native.Mathlib.Omega.{arith}
@@ -12,7 +12,8 @@ use lib.Seq.{drop-cons}
 use lib.IntN.{ℤ, pos, natAbs, _+ℤ_}
 use mir.Syntax.{w64}
 use mir.Val.{toZ, ofZ}
-use borrow.Author.Tests.{lt-ltb, le-ltb, ltb-false}
+use borrow.Author.Count.{below-none, below-more}
+use borrow.Author.Tests.{lt-ltb, le-ltb, ltb-false, not-false}
 use Rattle.definitions.specs.Lists.{totalAbs}
 use Rattle.definitions.specs.Mesh.{org}
 use Rattle.definitions.specs.Labels.{outer}
@@ -62,9 +63,23 @@ within-all bs i h f =
     let q = in-getD (pos 0) m in
     rw (sym (q .2)) (le-ltb limit (natAbs (getD bs (q .0) (pos 0))) (f (q .0) (omega (arith, q .1))))))
 
-pub not-within : (bs : List ℤ) (i : ℕ) → i < length bs → limit < natAbs (getD bs i (pos 0)) → true ≡ row10 bs
+-- the loop's invariant; m is the absolute value of the next coordinate
+pub record Ranged (bs : List ℤ) (i : ℕ) : Type 0 where
+  pub within : Within bs i
+
+pub ranged-none : (bs : List ℤ) → Ranged bs 0
+ranged-none bs = record { within = below-none (λ k. natAbs (getD bs k (pos 0)) ≤ limit) }
+
+pub ranged-more : (bs : List ℤ) (i m : ℕ) → Ranged bs i → m ≡ natAbs (getD bs i (pos 0)) → m ≤ limit → Ranged bs (i + 1)
+ranged-more bs i m r e h = record { within = below-more (λ k. natAbs (getD bs k (pos 0)) ≤ limit) i (r .within) (omega arith) }
+
+pub ranged-past : (bs : List ℤ) (i m : ℕ) → i < length bs → m ≡ natAbs (getD bs i (pos 0)) → limit < m → true ≡ row10 bs
 unfolding row10
-not-within bs i h q = sym (true-any (λ b. ltb limit (natAbs b)) (getD-in bs i (pos 0) h) (lt-ltb limit (natAbs (getD bs i (pos 0))) q))
+ranged-past bs i m h e q =
+    sym (true-any (λ b. ltb limit (natAbs b)) (getD-in bs i (pos 0) h) (lt-ltb limit (natAbs (getD bs i (pos 0))) (omega arith)))
+
+pub ranged-all : (bs : List ℤ) (i : ℕ) → length bs ≤ i → Ranged bs i → false ≡ row10 bs
+ranged-all bs i h r = within-all bs i h (r .within)
 
 -- where row 10 finds nothing every coordinate is within the limit
 pub range : (bs : List ℤ) → row10 bs ≡ false → (k : ℕ) → natAbs (getD bs k (pos 0)) ≤ limit
@@ -84,41 +99,39 @@ coordinate-size bs e x c i h = omega (arith, held-size x, rw (← h) at (coordin
 
 -- ---- row 11: the tests in the code's order
 
-module _ (bs : List ℤ) (i : ℕ) (x y z : ℤ) where
-  pub hasCoordinates-0 : eqZ (coordinate bs 0 i) x ≡ false → false ≡ hasCoordinates bs i x y z
+-- a, b, d are the results of the tests, s, t, u the numbers that they compare with
+module _ (bs : List ℤ) (i : ℕ) (x y z : ℤ) (a b d : Bool) (s t u : ℤ) (e : a ≡ eqZ (coordinate bs 0 i) s) (f : s ≡ x) where
+  pub hasCoordinates-0 : a ≡ false → false ≡ hasCoordinates bs i x y z
   unfolding hasCoordinates
-  hasCoordinates-0 h = rw h
+  hasCoordinates-0 h = rw (← f, ← e, h)
 
-  pub hasCoordinates-1 : eqZ (coordinate bs 0 i) x ≡ true → eqZ (coordinate bs 1 i) y ≡ false → false ≡ hasCoordinates bs i x y z
-  unfolding hasCoordinates
-  hasCoordinates-1 g h = rw (g, h)
+  module _ (h : a ≡ true) (g : b ≡ eqZ (coordinate bs 1 i) t) (k : t ≡ y) where
+    pub hasCoordinates-1 : b ≡ false → false ≡ hasCoordinates bs i x y z
+    unfolding hasCoordinates
+    hasCoordinates-1 l = rw (← f, ← e, ← k, ← g, h, l)
 
-  pub hasCoordinates-2 : (r : Bool) → eqZ (coordinate bs 0 i) x ≡ true → eqZ (coordinate bs 1 i) y ≡ true → r ≡ eqZ (coordinate bs 2 i) z →
-      r ≡ hasCoordinates bs i x y z
-  unfolding hasCoordinates
-  hasCoordinates-2 r g h e = rw (g, h) e
+    pub hasCoordinates-2 : b ≡ true → d ≡ eqZ (coordinate bs 2 i) u → u ≡ z → d ≡ hasCoordinates bs i x y z
+    unfolding hasCoordinates
+    hasCoordinates-2 l m o = rw (← f, ← e, ← k, ← g, h, l, ← o, m)
 
--- the outer vertices as the code finds them, and b0 of v0
-pub record Corners (ts : List ℕ) (bs : List ℤ) (v0 v1 v2 : ℕ) (N : ℤ) : Type 0 where
-  pub is0 : v0 ≡ org ts 0
-  pub is1 : v1 ≡ org ts 2
-  pub is2 : v2 ≡ org ts 1
-  pub isN : N ≡ coordinate bs 0 v0
+row11-is : (ts : List ℕ) (bs : List ℤ) → let N = coordinate bs 0 (org ts 0) in row11 ts bs
+    ≡ not (hasCoordinates bs (org ts 0) N (pos 0) (pos 0) && hasCoordinates bs (org ts 2) (pos 0) N (pos 0)
+    && hasCoordinates bs (org ts 1) (pos 0) (pos 0) N)
+unfolding row11 outer
+row11-is ts bs = refl
 
-module _ (ts : List ℕ) (bs : List ℤ) (v0 v1 v2 : ℕ) (N : ℤ) (c : Corners ts bs v0 v1 v2 N) where
-  row11-is : row11 ts bs ≡ not (hasCoordinates bs v0 N (pos 0) (pos 0) && hasCoordinates bs v1 (pos 0) N (pos 0) && hasCoordinates bs v2 (pos 0) (pos 0) N)
-  unfolding row11 outer
-  row11-is = rw (c .isN, c .is0, c .is1, c .is2)
+-- the outer vertices as the code finds them, b0 of v0, and the results a, b, d of their tests
+module _ (ts : List ℕ) (bs : List ℤ) (v0 : ℕ) (N : ℤ) (a : Bool) (is0 : v0 ≡ org ts 0) (e : a ≡ hasCoordinates bs v0 N (pos 0) (pos 0))
+    (isN : N ≡ coordinate bs 0 v0) where
+  pub corner-0 : a ≡ false → true ≡ row11 ts bs
+  corner-0 h = rw (row11-is ts bs, ← is0, ← isN, ← e, h)
 
-  pub corner-0 : hasCoordinates bs v0 N (pos 0) (pos 0) ≡ false → true ≡ row11 ts bs
-  corner-0 h = sym (row11-is ∙ rw h)
+  module _ (h : a ≡ true) (v1 : ℕ) (b : Bool) (is1 : v1 ≡ org ts 2) (f : b ≡ hasCoordinates bs v1 (pos 0) N (pos 0)) where
+    pub corner-1 : b ≡ false → true ≡ row11 ts bs
+    corner-1 k = rw (row11-is ts bs, ← is0, ← isN, ← e, ← is1, ← f, h, k)
 
-  pub corner-1 : hasCoordinates bs v0 N (pos 0) (pos 0) ≡ true → hasCoordinates bs v1 (pos 0) N (pos 0) ≡ false → true ≡ row11 ts bs
-  corner-1 g h = sym (row11-is ∙ rw (g, h))
-
-  pub corner-2 : (r : Bool) → hasCoordinates bs v0 N (pos 0) (pos 0) ≡ true → hasCoordinates bs v1 (pos 0) N (pos 0) ≡ true →
-      r ≡ hasCoordinates bs v2 (pos 0) (pos 0) N → not r ≡ row11 ts bs
-  corner-2 r g h e = sym (row11-is ∙ rw (g, h, e))
+    pub corner-2 : b ≡ true → (v2 : ℕ) (d : Bool) → v2 ≡ org ts 1 → d ≡ hasCoordinates bs v2 (pos 0) (pos 0) N → not d ≡ row11 ts bs
+    corner-2 k v2 d is2 g = rw (row11-is ts bs, ← is0, ← isN, ← e, ← is1, ← f, ← is2, ← g, h, k)
 
 -- ---- row 12
 
@@ -127,13 +140,32 @@ unfoldable pub balanced : List ℤ → ℕ → ℕ → Bool
 unfolding eqZ coordinate
 balanced bs v i = eqZ (coordinate bs 0 i +ℤ coordinate bs 1 i +ℤ coordinate bs 2 i) (coordinate bs 0 v)
 
-pub off-one : (n : ℕ) (ts : List ℕ) (bs : List ℤ) (i : ℕ) → i < n → balanced bs (outer ts 0) i ≡ false → true ≡ row12 n ts bs
-unfolding row12 balanced
-off-one n ts bs i h e = sym (true-any (λ i. not (balanced bs (outer ts 0) i)) (in-upto n i h) (rw e))
+-- the first i vertices have the sum that is wanted, b0 of vertex v, which is v0
+pub record Balanced (n : ℕ) (ts : List ℕ) (bs : List ℤ) (v i : ℕ) : Type 0 where
+  pub corner : v ≡ org ts 0
+  pub low : i ≤ n
+  pub passed : (k : ℕ) → k < i → balanced bs v k ≡ true
 
-pub off-none : (n : ℕ) (ts : List ℕ) (bs : List ℤ) → ((k : ℕ) → k < n → balanced bs (outer ts 0) k ≡ true) → false ≡ row12 n ts bs
-unfolding row12 balanced
-off-none n ts bs f = sym (none-upto (λ i. not (balanced bs (outer ts 0) i)) n (λ k h. rw (f k h)))
+pub balanced-none : (n : ℕ) (ts : List ℕ) (bs : List ℤ) (v : ℕ) → v ≡ org ts 0 → Balanced n ts bs v 0
+balanced-none n ts bs v e = record { corner = e; low = omega arith; passed = below-none (λ k. balanced bs v k ≡ true) }
+
+module _ (n : ℕ) (ts : List ℕ) (bs : List ℤ) (v i : ℕ) (b : Balanced n ts bs v i) where
+  -- r is the result of the code's test of the next vertex
+  pub balanced-more : (r : Bool) → i < n → r ≡ not (balanced bs v i) → r ≡ false → Balanced n ts bs v (i + 1)
+  balanced-more r h e f = record {
+    corner = b .corner;
+    low = omega arith;
+    passed = below-more (λ k. balanced bs v k ≡ true) i (b .passed) (not-false (balanced bs v i) (cc));
+  }
+
+  pub balanced-fails : (r : Bool) → i < n → r ≡ not (balanced bs v i) → r ≡ true → true ≡ row12 n ts bs
+  unfolding row12 balanced outer
+  balanced-fails r h e f =
+      sym (true-any (λ i. not (balanced bs (outer ts 0) i)) (in-upto n i h) (rw (b .corner) at (sym e ∙ f)))
+
+  pub balanced-all : n ≤ i → false ≡ row12 n ts bs
+  unfolding row12 balanced outer
+  balanced-all h = sym (none-upto (λ i. not (balanced bs (outer ts 0) i)) n (λ k l. rw (rw (b .corner) at (b .passed k (omega (arith, l))))))
 
 -- the code's test of one vertex, on numbers that are those of the definition
 pub unbalanced-is : (bs : List ℤ) (v i : ℕ) (s t : ℤ) (r : Bool) → s ≡ coordinate bs 0 i +ℤ coordinate bs 1 i +ℤ coordinate bs 2 i →

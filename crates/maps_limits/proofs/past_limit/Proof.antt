@@ -1,9 +1,8 @@
 -- `maps_limits::past_limit` meets its contract. The loop's invariant: the sum so far and the absolute values still to come make up the whole, and the sum is
 -- within the limit. Assumes nothing.
-use borrow.Author.Needs.{needs}
 use Prim.Native.Nat.{_-_}
-use native.Mathlib.Omega.{arith}
 use lib.ListN.{length}
+use borrow.Author.Needs.{needs}
 use Rattle.maps_limits.specs.Limits.{Summed, summed-none, summed-more, summed-past, summed-all}
 use Rattle.maps_limits.proofs.past_limit.Statement.{statement}
 use Rattle.maps_limits.proofs.past_limit.Tie as tie
@@ -15,19 +14,10 @@ abbrev μ-loop : tie.MeasureT-loop
 μ-loop weights sum₀ i₀ sum i = length weights - i
 
 loop-holds : tie.Need-loop-holds Inv-loop μ-loop
-loop-holds c = summed-none (c .args .weights .now)
-
-size-at-requires : tie.Need-size-at-requires Inv-loop μ-loop
-size-at-requires c κs = tt
+loop-holds c = search summed-none
 
 returns : tie.Need-returns Inv-loop μ-loop
 returns c = search summed-past
-
-add-i : tie.Need-add-i Inv-loop μ-loop
-add-i c = omega arith
-
-loop-less : tie.Need-loop-less Inv-loop μ-loop
-loop-less c = omega arith
 
 loop-again : tie.Need-loop-again Inv-loop μ-loop
 loop-again c = search summed-more
@@ -42,10 +32,10 @@ past-limit-spec =
     Inv-loop
     μ-loop
     loop-holds
-    size-at-requires
+    (λ c κs. search needs)
     (λ c. search needs)
     returns
-    add-i
-    loop-less
+    (λ c. search needs)
+    (λ c. search needs)
     loop-again
     returns-2)
