@@ -1,15 +1,15 @@
 -- Whole numbers that fit 64 bits, by their absolute values, and the tests of the code. Assumes nothing.
 use Prim.Native.Nat.{ℕ, zero, suc, _+_, _-_, _*_, _≤_, _<_, _^_}
 use mathlib.Core.Path.{_≡_, refl}
-use mathlib.Core.Bool.{true, false}
+use mathlib.Core.Bool.{Bool, true, false}
 use native.Mathlib.Omega.{arith}
 use native.Mathlib.Decide.{decLt}
 use lib.Dec.{T}
 use lib.IntN.{ℤ, pos, negsuc, negℤ, natAbs, _+ℤ_, _-ℤ_, _*ℤ_}
 use lib.Signed.{mag, ltZ, leZ, nonNeg}
 use mir.Syntax.{w64}
-use mir.Val.{SFits, toZ, ofZ}
-use mir.Facts.{toZ-ofZ, toZ-pos}
+use mir.Val.{Fits, SFits, toZ, ofZ}
+use mir.Facts.{toZ-ofZ, toZ-pos, fits-natAbs}
 use borrow.Author.Tests.{le-ltb}
 use Rattle.laws.specs.Integers.{up, dn, ≡z, z-}
 use Rattle.laws.specs.Sums.{abs-+}
@@ -35,28 +35,50 @@ abs-times (pos a) (negsuc b) = abs-neg (a * suc b)
 abs-times (negsuc a) (pos b) = abs-neg (suc a * b)
 abs-times (negsuc a) (negsuc b) = refl
 
--- the tests of the code
-pub eq-pass : (a b : ℤ) → leZ a b ≡ true → leZ b a ≡ eqZ a b
-unfolding eqZ
-eq-pass a b h = rw h
+-- sums, differences and products that fit
+pub fits-plus : (a b : ℤ) → natAbs a + natAbs b < 2 ^ 63 → SFits w64 (a +ℤ b)
+fits-plus a b h = fits-abs (a +ℤ b) (omega (arith, abs-+ a b))
 
-pub eq-fail : (a b : ℤ) → leZ a b ≡ false → false ≡ eqZ a b
-unfolding eqZ
-eq-fail a b h = rw h
+pub fits-minus : (a b : ℤ) → natAbs a + natAbs b < 2 ^ 63 → SFits w64 (a -ℤ b)
+fits-minus a b h = fits-abs (a -ℤ b) (omega (arith, abs-minus a b))
+
+-- the tests of the code, on numbers a, b that are x, y
+module _ (x y a b : ℤ) (e : a ≡ x) (f : b ≡ y) where
+  pub eq-pass : leZ a b ≡ true → leZ b a ≡ eqZ x y
+  unfolding eqZ
+  eq-pass h = rw (← e, ← f, h)
+
+  pub eq-fail : leZ a b ≡ false → false ≡ eqZ x y
+  unfolding eqZ
+  eq-fail h = rw (← e, ← f, h)
 
 -- -1 less a number below 0 fits, and is one less than its absolute value
 turned : (n : ℕ) → negsuc 0 -ℤ negsuc n ≡ pos n
 unfolding up dn
 turned n = ≡z (negsuc 0 -ℤ negsuc n) (pos n) (omega (arith, z- (negsuc 0) (negsuc n)))
 
-pub record Below (a m : ℤ) : Type 0 where
-  pub fits : SFits w64 m
-  pub sign : T (nonNeg m)
-  pub one : natAbs m + 1 ≡ natAbs a
+record Below (a m : ℤ) : Type 0 where
+  fits : SFits w64 m
+  sign : T (nonNeg m)
+  one : natAbs m + 1 ≡ natAbs a
 
-pub below : (a : ℤ) → SFits w64 a → ltZ a (pos 0) ≡ true → Below a (negsuc 0 -ℤ a)
+below : (a : ℤ) → SFits w64 a → ltZ a (pos 0) ≡ true → Below a (negsuc 0 -ℤ a)
 below (pos n) f h = let z : _≡_ {A = ℕ} 0 1 = cc (le-ltb n 0 (omega arith)) in absurd (omega arith)
 below (negsuc n) f h = rw (turned n) (record { fits = record { sfits = f .sfits }; sign = tt; one = omega arith })
+
+-- the same where the code's test found it below 0
+module _ (a : ℤ) (f : SFits w64 a) (h : ltZ (toZ w64 (ofZ w64 a)) (pos 0) ≡ true) where
+  found : Below a (negsuc 0 -ℤ a)
+  found = below a f (rw (toZ-ofZ f) at h)
+
+  pub below-fits : SFits w64 (negsuc 0 -ℤ a)
+  below-fits = found .fits
+
+  pub below-sign : T (nonNeg (negsuc 0 -ℤ a))
+  below-sign = found .sign
+
+  pub below-one : natAbs (negsuc 0 -ℤ a) + 1 ≡ natAbs a
+  below-one = found .one
 
 pub above : (a : ℤ) → ltZ a (pos 0) ≡ false → T (nonNeg a)
 above (pos n) h = tt
@@ -66,6 +88,9 @@ above (negsuc n) h = let z : _≡_ {A = ℕ} 0 1 = cc in absurd (omega arith)
 pub abs-range : (a : ℤ) → SFits w64 a → natAbs a ≤ 2 ^ 63
 abs-range (pos n) h = omega (arith, h .sfits)
 abs-range (negsuc n) h = h .sfits
+
+pub size-fits : (a : ℤ) → SFits w64 a → Fits w64 (natAbs a)
+size-fits a f = fits-natAbs tt f
 
 -- a number that fits is what its 64 bits stand for
 pub held : (z : ℤ) → mag z < 2 ^ 63 → toZ w64 (ofZ w64 z) ≡ z
@@ -86,6 +111,12 @@ module _ (r s t x y : ℤ) (h : mag r < 2 ^ 63) where
 
   pub times-is : r ≡ s *ℤ t → s ≡ x → t ≡ y → toZ w64 (ofZ w64 r) ≡ x *ℤ y
   times-is e f g = rw (held r h, e, f, g)
+
+pub size-is : (r : ℕ) (s z : ℤ) → r ≡ natAbs s → s ≡ z → r ≡ natAbs z
+size-is r s z e f = rw (← f) e
+
+pub equal-is : (r : Bool) (s t x y : ℤ) → r ≡ eqZ s t → s ≡ x → t ≡ y → r ≡ eqZ x y
+equal-is r s t x y e f g = rw (← f, ← g) e
 
 pub ruleset values = (held-is, plus-is, minus-is, times-is)
 
