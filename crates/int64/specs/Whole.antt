@@ -131,6 +131,12 @@ pub held-size : (z : ℤ) → natAbs (toZ w64 (ofZ w64 z)) ≤ natAbs z
 held-size (pos n) = read-size n n (λ h. omega arith) (λ h. omega arith)
 held-size (negsuc n) = read-size (2 ^ 64 - suc n) (suc n) (λ h. omega arith) (λ h. omega arith)
 
+-- -1 less a number of 64 bits, each read back from its bits, is no more than one further from 0
+pub turned-size : {a : ℤ} → SFits w64 a → natAbs (toZ w64 (ofZ w64 (negsuc 0 -ℤ toZ w64 (ofZ w64 a)))) ≤ 2 ^ 63 + 1
+turned-size {a} f =
+    let s = toZ w64 (ofZ w64 a) in
+    omega (arith, held-size (negsuc 0 -ℤ s), abs-minus (negsuc 0) s, held-size a, abs-range a f)
+
 -- `omega sizes` reads that of each result of which a call says what it is, and of each argument
 pub result-size : (r z : ℤ) → r ≡ z → natAbs (toZ w64 (ofZ w64 r)) ≤ natAbs r
 result-size r z e = held-size r
