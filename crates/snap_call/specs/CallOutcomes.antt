@@ -16,6 +16,9 @@ use Rattle.laws.specs.Lists.{tested}
 use Rattle.theory_sphere.specs.FirstRefusal.{row2-cons}
 use Rattle.lent_slices.specs.Lengths.{firstRows, first-0, first-1, first-2, none-found}
 use Rattle.snap_model.specs.Points.{settled, new, not-refused}
+use Rattle.snap_call.specs.Answer.{snapToAnswer}
+use Rattle.snap_call.specs.declared.SnapAnswer.{SnapAnswer}
+use Rattle.snap_call.specs.declared.SnapAnswer.the-variants.{Done}
 
 -- the first of three rows that finds something, and what comes of it
 unfoldable found : Bool → Bool → Bool → Option ℕ
@@ -71,8 +74,8 @@ module _ (n : ℕ) (shares : List Float) (r : ℕ) (bs : List ℤ) where
   abbrev lent : List Slice
   lent = slice (length shares) (pointsLength n) ∷ slice (length bs) (coordinatesLength n) ∷ []
 
+  -- k is what rows 1 and 2 find
   module _ (k : ℕ) (e : k ≡ firstRows n lent) where
-    -- rows 1 and 2
     pub gives-early : (k ≡ 0 → ⊥) → Gives (refused (numbered k)) bs
     gives-early f =
         elim (tested (row1 mostVertices n)) [
@@ -87,29 +90,44 @@ module _ (n : ℕ) (shares : List Float) (r : ℕ) (bs : List ℤ) where
           ]
         ]
 
+    -- they find nothing
     module _ (z : k ≡ 0) where
-      -- where they find nothing, the lengths are right
-      pub long : (length shares ≡ 2 * n) × (length bs ≡ 3 * n)
-      long =
-          let f = none-found n lent k e z in
-          let p = row2-cons (length shares) (pointsLength n) (slice (length bs) (coordinatesLength n) ∷ []) .0 (f .1) in
-          (p .0, row2-cons (length bs) (coordinatesLength n) [] .0 (p .1) .0)
-
       -- row 14
       pub gives-scale : scaleAllowed r ≡ false → Gives (refused (numbered 14)) bs
       gives-scale g =
           let f = none-found n lent k e z in
           gives (same (numbered 14)) (rw (call n shares r bs, f .0, f .1, g) (unfold found outcome in refl))
 
-      -- no row of the first three finds anything: the points decide
-      module _ (g : scaleAllowed r ≡ true) where
+      -- the points decide, and a is what is found of them
+      module _ (g : scaleAllowed r ≡ true) (a : SnapAnswer) (h : snapToAnswer a ≡ settled (snapAll r shares)) where
         decided : snapCall n shares r bs ≡ outcome none (snapAll r shares) bs
         decided = let f = none-found n lent k e z in rw (call n shares r bs, f .0, f .1, g) (unfold found in refl)
 
         -- the first that is refused is answered, and the coordinates stay as lent
-        pub gives-refusal : (settled (snapAll r shares) ≡ done tt → ⊥) → Gives (settled (snapAll r shares)) bs
-        gives-refusal s = gives (record { answer = settled (snapAll r shares); coordinates = bs }) (decided ∙ is-refused (snapAll r shares) bs s)
+        pub gives-refusal : (snapToAnswer a ≡ done tt → ⊥) → Gives (snapToAnswer a) bs
+        gives-refusal s =
+            rw h (gives (record { answer = settled (snapAll r shares); coordinates = bs }) (decided ∙ is-refused (snapAll r shares) bs (λ d. s (h ∙ d))))
 
         -- none is, and the coordinates are theirs
-        pub gives-done : settled (snapAll r shares) ≡ done tt → Gives (done tt) (new (snapAll r shares))
-        gives-done s = gives (record { answer = done tt; coordinates = new (snapAll r shares) }) (decided ∙ is-done (snapAll r shares) bs s)
+        pub gives-done : a ≡ Done → (cs : List ℤ) → cs ≡ new (snapAll r shares) → Gives (done tt) cs
+        gives-done s cs f =
+            rw f (gives (record { answer = done tt; coordinates = new (snapAll r shares) })
+            (decided ∙ is-done (snapAll r shares) bs (sym h ∙ ap snapToAnswer s)))
+
+-- where rows 1 and 2 find nothing the lengths m, p are right
+module _ (n m p k : ℕ) (e : k ≡ firstRows n (slice m (pointsLength n) ∷ slice p (coordinatesLength n) ∷ [])) (z : k ≡ 0) where
+  shares-first : (m ≡ 2 * n) × (row2 (slice p (coordinatesLength n) ∷ []) ≡ false)
+  shares-first = row2-cons m (pointsLength n) (slice p (coordinatesLength n) ∷ []) .0 (none-found n _ k e z .1)
+
+  pub shares-long : m ≡ 2 * n
+  shares-long = shares-first .0
+
+  pub coordinates-long : p ≡ 3 * n
+  coordinates-long = row2-cons p (coordinatesLength n) [] .0 (shares-first .1) .0
+
+-- what the tests found, for the calls after them
+pub scale-found : (r : ℕ) (a b : Bool) → a ≡ scaleAllowed r → a ≡ b → scaleAllowed r ≡ b
+scale-found r a b e g = sym e ∙ g
+
+pub none-refused : (w : Answer (List ℤ)) (a : SnapAnswer) → snapToAnswer a ≡ settled w → a ≡ Done → settled w ≡ done tt
+none-refused w a e g = sym e ∙ ap snapToAnswer g
