@@ -1,2 +1,3 @@
--- What the cases look at.
+-- What the cases look at, and what printing a number rests on.
 pub mod Seen
+pub mod Size
