@@ -1,5 +1,6 @@
--- An answer told without an enum: by the number of its refusal, 0 where there is none, and by the share of 16, which else stays as lent. Definitions only.
+-- An answer told without an enum: by the number of its refusal, 0 where there is none, and by the share of 16, which else stays as lent. Assumes nothing.
 use Prim.Native.Nat.{ℕ}
+use mathlib.Core.Path.{_≡_, sym, ap, _∙_}
 use lib.Ieee.{Float}
 use Rattle.definitions.specs.Answers.{Answer, done, refused, number, numbered, stoppedAfter, shareOutside, lineBroken}
 
@@ -25,3 +26,12 @@ countOf lent (refused (numbered k)) = lent
 countOf lent (refused (stoppedAfter count)) = count
 countOf lent (refused (shareOutside share)) = lent
 countOf lent (refused (lineBroken line)) = lent
+
+-- What g says of a call's answer w is n, where the code has the call's result r, which f makes that answer, in the case s. The second law is for a g that
+-- takes what was lent.
+module _ {R W N : Type 0} (f : R → W) where
+  pub told : (g : W → N) (r s : R) (w : W) (n : N) → f r ≡ w → r ≡ s → g (f s) ≡ n → n ≡ g w
+  told g r s w n e h i = sym i ∙ ap (λ (t : R). g (f t)) (sym h) ∙ ap g e
+
+  pub told-lent : (g : N → W → N) (lent : N) (r s : R) (w : W) (n : N) → f r ≡ w → r ≡ s → g lent (f s) ≡ n → n ≡ g lent w
+  told-lent g lent = told (g lent)

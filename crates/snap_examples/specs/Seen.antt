@@ -1,5 +1,5 @@
--- What the cases look at: the number of an answer, 0 where nothing is refused, and the first coordinate of three points of the same share. And
--- the tests of the cases. Assumes nothing.
+-- What the cases look at: the number of an answer, 0 where nothing is refused, and the first coordinate of three points of the same share;
+-- and what the code's tests of them rest on. Assumes nothing.
 use Prim.Native.Nat.{ℕ, _<_, _^_}
 use mathlib.Core.Path.{_≡_, ap, _∙_}
 use mathlib.Core.Bool.{true}

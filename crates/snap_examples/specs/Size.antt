@@ -1,5 +1,4 @@
 -- What `size` asks: a number k above -10 ^ 9 and below 0 can be negated, and one that is not below 0 can be cast. Assumes nothing.
-use Prim.Native.Nat.{ℕ}
 use native.Mathlib.Omega.{arith}
 use mathlib.Core.Path.{_≡_}
 use mathlib.Core.Bool.{true, false, true≢false}
