@@ -2,7 +2,7 @@
 use Prim.Native.Nat.{ℕ, suc, _+_, _≤_, _<_}
 use mathlib.Core.Path.{_≡_, refl, sym, _∙_}
 use mathlib.Core.Logic.{_≢_, inl, inr}
-use mathlib.Core.Bool.{true, false, cond}
+use mathlib.Core.Bool.{Bool, true, false, cond}
 use mathlib.Core.List.{List, [], _∷_}
 use native.Mathlib.Omega.{arith}
 use lib.Dec.{ltb}
@@ -41,6 +41,10 @@ unfoldable pub firstRows : ℕ → List Slice → ℕ
 unfolding row1 row2
 firstRows n slices = cond (row1 mostVertices n) 1 (cond (row2 slices) 2 0)
 
+-- slices with the same lengths
+pub same-slice : (x y z : ℕ) (some others : List Slice) → y ≡ z → some ≡ others → slice x y ∷ some ≡ slice x z ∷ others
+same-slice x y z some others e f = cc
+
 module _ (n : ℕ) (slices : List Slice) where
   pub first-1 : row1 mostVertices n ≡ true → 1 ≡ firstRows n slices
   unfolding firstRows
@@ -53,6 +57,18 @@ module _ (n : ℕ) (slices : List Slice) where
   pub first-0 : row1 mostVertices n ≡ false → row2 slices ≡ false → 0 ≡ firstRows n slices
   unfolding firstRows
   first-0 e f = rw (e, f)
+
+  -- the same from the results a and b of the code's tests, of slices that are those
+  module _ (a : Bool) (e : a ≡ row1 mostVertices n) where
+    pub rows-1 : a ≡ true → 1 ≡ firstRows n slices
+    rows-1 h = first-1 (sym e ∙ h)
+
+    module _ (h : a ≡ false) (b : Bool) (found : List Slice) (f : b ≡ row2 found) (same : found ≡ slices) where
+      pub rows-2 : b ≡ true → 2 ≡ firstRows n slices
+      rows-2 i = first-2 (sym e ∙ h) (rw (← same) (sym f ∙ i))
+
+      pub rows-0 : b ≡ false → 0 ≡ firstRows n slices
+      rows-0 i = first-0 (sym e ∙ h) (rw (← same) (sym f ∙ i))
 
   -- and back
   pub none-found : (r : ℕ) → r ≡ firstRows n slices → r ≡ 0 → (row1 mostVertices n ≡ false) × (row2 slices ≡ false)

@@ -1,23 +1,17 @@
 -- `lent_slices::mesh_rows` meets its contract: rows 1 and 2, one after the other. Assumes nothing.
-use Rattle.lent_slices.specs.Lengths.{in-size, first-0, first-1, first-2}
+use Rattle.lent_slices.specs.Lengths.{in-size, rows-0, rows-1, rows-2, same-slice}
 use borrow.Author.Needs.{needs}
 use Rattle.lent_slices.proofs.mesh_rows.Statement.{statement}
 use Rattle.lent_slices.proofs.mesh_rows.Tie as tie
 
 returns : tie.Need-returns
-returns c = first-1 _ _ (cc)
-
-triangles-length-requires : tie.Need-triangles-length-requires
-triangles-length-requires c κs = search in-size
-
-scratch-length-requires : tie.Need-scratch-length-requires
-scratch-length-requires c κs = search in-size
+returns c = search rows-1
 
 returns-2 : tie.Need-returns-2
-returns-2 c = first-2 _ _ (cc) (cc)
+returns-2 c = search (rows-2, same-slice)
 
 returns-3 : tie.Need-returns-3
-returns-3 c = first-0 _ _ (cc) (cc)
+returns-3 c = search (rows-0, same-slice)
 
 pub mesh-rows-spec : {M : Type 1} → statement M
 mesh-rows-spec =
@@ -25,8 +19,8 @@ mesh-rows-spec =
     (tie.spec
     (λ c κs. search needs)
     returns
-    triangles-length-requires
-    scratch-length-requires
+    (λ c κs. search in-size)
+    (λ c κs. search in-size)
     (λ c. search needs)
     (λ c. search needs)
     (λ c κs. search needs)
