@@ -1,5 +1,5 @@
 // A reader holds the job text and a position in it. It lends out the text from its next line on, and moves by a line. The work is in
-// covered functions of `textline`, which take the text and the position; the functions over the struct are thin, and proved by hand.
+// covered functions of `text_parse`, which take the text and the position; the functions over the struct are thin, and proved by hand.
 ghost use mathlib.Core.Path.{_≡_};
 ghost use lib.ListN.{drop};
 ghost use Rattle.text_model.specs.Positions.{nextLine};
