@@ -14,57 +14,54 @@ use Rattle.text_parse.specs.declared.Vertex.{Vertex}
 use Rattle.text_parse.specs.declared.Vertex.the-variants.{Corner, NoCorner}
 use Rattle.text_parse.specs.NumberAnswers.{asVertex, vertex-value, vertex-broken}
 
--- ---- the word, which ends at k
+-- ---- the word, which ends at k: with no tab, with another word, and with the word and `rest` after it
 
-module _ {A : Type 0} (layout inner : List (List ℕ) → Option A) (word : List ℕ) (b : Begins layout inner word) where
-  pub word-alone : (s : List ℕ) (k : ℕ) → k ≡ indexOf TAB s → length s ≤ k → layout (fields s) ≡ none
-  word-alone s k e h = no-tab layout inner word b s (omega arith)
+module _ {A B : Type 0} {layout inner : List (List ℕ) → Option A} {word : List ℕ} (answer : Option A → B) (b : Begins layout inner word) where
+  pub word-alone : (s : List ℕ) (k : ℕ) → k ≡ indexOf TAB s → length s ≤ k → answer none ≡ answer (layout (fields s))
+  word-alone s k e h = ap answer (sym (no-tab layout inner word b s (omega arith)))
 
-  pub word-other : (s f : List ℕ) (k : ℕ) (r : Bool) → k ≡ indexOf TAB s → k < length s → f ≡ take k s → r ≡ sameBytes f word →
-      r ≡ false
-      → layout (fields s) ≡ none
-  word-other s f k r e h p q n =
-      other-word layout inner word b s (omega arith) (ap (λ (l : List ℕ). sameBytes l word) (ap (λ (j : ℕ). take j s) (sym e) ∙ sym p) ∙ sym q
-      ∙ n)
+  module _ (s f : List ℕ) (k : ℕ) (r : Bool) (e : k ≡ indexOf TAB s) (h : k < length s) (p : f ≡ take k s) (q : r ≡ sameBytes f word) where
+    first : sameBytes (take (indexOf TAB s) s) word ≡ r
+    first = cc
 
-  pub word-then : (s f t : List ℕ) (k : ℕ) (r : Bool) → k ≡ indexOf TAB s → k < length s → f ≡ take k s → r ≡ sameBytes f word →
-      r ≡ true
-      → t ≡ drop (k + 1) s → layout (fields s) ≡ inner (fields t)
-  word-then s f t k r e h p q y d =
-      the-word layout inner word b s (omega arith) (ap (λ (l : List ℕ). sameBytes l word) (ap (λ (j : ℕ). take j s) (sym e) ∙ sym p) ∙ sym q ∙ y)
-      ∙ ap (λ (l : List ℕ). inner (fields l)) (ap (λ (j : ℕ). drop j s) (ap suc (sym e) ∙ sym (add-one k)) ∙ sym d)
+    pub word-other : r ≡ false → answer none ≡ answer (layout (fields s))
+    word-other n = ap answer (sym (other-word layout inner word b s (omega arith) (first ∙ n)))
 
--- ---- a vertex, which ends at k
+    pub word-then : r ≡ true → (rest : List ℕ) → rest ≡ drop (k + 1) s → (x : B) → x ≡ answer (inner (fields rest)) → x ≡ answer (layout (fields s))
+    word-then y rest d x z =
+        let l : drop (suc (indexOf TAB s)) s ≡ rest = cc (add-one k) in
+        z ∙ ap answer (sym (the-word layout inner word b s (omega arith) (first ∙ y) ∙ ap (λ (o : List ℕ). inner (fields o)) l))
 
-module _ (layout : List (List ℕ) → Option (List ℕ)) (inner : ℕ → List (List ℕ) → Option (List ℕ)) (t : Takes layout inner) where
-  pub corner-alone : (s : List ℕ) (k : ℕ) → k ≡ indexOf TAB s → length s ≤ k → layout (fields s) ≡ none
-  corner-alone s k e h = take-alone layout inner t s (omega arith)
+-- ---- a vertex, which ends at k: with no tab, with none there, and with a and `rest` after it
 
-  pub corner-broken : (s f : List ℕ) (k : ℕ) (r : Vertex) → k ≡ indexOf TAB s → k < length s → f ≡ take k s → r ≡ asVertex (vertexField f)
-      → r ≡ NoCorner
-      → layout (fields s) ≡ none
-  corner-broken s f k r e h p q n =
-      take-broken layout inner t s (omega arith)
-      (ap vertexField (ap (λ (j : ℕ). take j s) (sym e) ∙ sym p) ∙ vertex-broken (vertexField f) r q n)
+module _ {layout : List (List ℕ) → Option (List ℕ)} {inner : ℕ → List (List ℕ) → Option (List ℕ)} (t : Takes layout inner) where
+  pub corner-alone : (s : List ℕ) (k : ℕ) → k ≡ indexOf TAB s → length s ≤ k → none ≡ layout (fields s)
+  corner-alone s k e h = sym (take-alone layout inner t s (omega arith))
 
-  pub corner-then : (s f u : List ℕ) (k a : ℕ) (r : Vertex) → k ≡ indexOf TAB s → k < length s → f ≡ take k s → r ≡ asVertex (vertexField f)
-      → r ≡ Corner a
-      → u ≡ drop (k + 1) s → layout (fields s) ≡ inner a (fields u)
-  corner-then s f u k a r e h p q y d =
-      take-vertex layout inner t s a (omega arith)
-      (ap vertexField (ap (λ (j : ℕ). take j s) (sym e) ∙ sym p) ∙ vertex-value (vertexField f) a r q y)
-      ∙ ap (λ (l : List ℕ). inner a (fields l)) (ap (λ (j : ℕ). drop j s) (ap suc (sym e) ∙ sym (add-one k)) ∙ sym d)
+  module _ (s f : List ℕ) (k : ℕ) (r : Vertex) (e : k ≡ indexOf TAB s) (h : k < length s) (p : f ≡ take k s) (q : r ≡ asVertex (vertexField f)) where
+    found : (o : Option ℕ) → vertexField f ≡ o → vertexField (take (indexOf TAB s) s) ≡ o
+    found o g = cc
+
+    pub corner-broken : r ≡ NoCorner → none ≡ layout (fields s)
+    corner-broken n = sym (take-broken layout inner t s (omega arith) (found none (vertex-broken (vertexField f) r q n)))
+
+    pub corner-then : (a : ℕ) → r ≡ Corner a → (rest : List ℕ) → rest ≡ drop (k + 1) s → (x : Option (List ℕ)) → x ≡ inner a (fields rest) →
+        x ≡ layout (fields s)
+    corner-then a y rest d x z =
+        let v : vertexField (take (indexOf TAB s) s) ≡ some a = found (some a) (vertex-value (vertexField f) a r q y) in
+        let l : drop (suc (indexOf TAB s)) s ≡ rest = cc (add-one k) in
+        z ∙ sym (take-vertex layout inner t s a (omega arith) v ∙ ap (λ (o : List ℕ). inner a (fields o)) l)
 
 -- ---- the last vertex
 
-pub last-broken : (a b : ℕ) (s : List ℕ) (r : Vertex) → r ≡ asVertex (vertexField s) → r ≡ NoCorner → lastOf a b (fields s) ≡ none
+pub last-broken : (a b : ℕ) (s : List ℕ) (r : Vertex) → r ≡ asVertex (vertexField s) → r ≡ NoCorner → none ≡ lastOf a b (fields s)
 unfolding three
-last-broken a b s r e n = last-last a b s ∙ ap (three (some a) (some b)) (vertex-broken (vertexField s) r e n)
+last-broken a b s r e n = sym (last-last a b s ∙ ap (three (some a) (some b)) (vertex-broken (vertexField s) r e n))
 
 pub last-some : (a b k : ℕ) (s : List ℕ) (r : Vertex) → r ≡ asVertex (vertexField s) → r ≡ Corner k →
-    lastOf a b (fields s) ≡ some (a ∷ b ∷ k ∷ [])
+    some (a ∷ b ∷ k ∷ []) ≡ lastOf a b (fields s)
 unfolding three
-last-some a b k s r e y = last-last a b s ∙ ap (three (some a) (some b)) (vertex-value (vertexField s) k r e y)
+last-some a b k s r e y = sym (last-last a b s ∙ ap (three (some a) (some b)) (vertex-value (vertexField s) k r e y))
 
 -- ---- the next line, after an LF at k of the rest
 

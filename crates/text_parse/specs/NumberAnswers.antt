@@ -1,5 +1,5 @@
 -- What the readers of numbers answer for what the definitions say of a field, and back. Assumes nothing.
-use Prim.Native.Nat.{ℕ, zero, suc, _-_, _≤_, _<_, _^_}
+use Prim.Native.Nat.{ℕ, zero, suc, _-_, _<_, _^_}
 use mathlib.Core.Path.{_≡_, refl, ap}
 use mathlib.Core.List.{List, [], _∷_}
 use mathlib.Core.Option.{Option, none, some}
@@ -7,8 +7,8 @@ use native.Mathlib.Omega.{arith}
 use lib.IntN.{ℤ, pos, negℤ, _-ℤ_, +ℤ-idl}
 use lib.ListN.{length, getD, take, drop}
 use lib.Seq.{take-all}
-use mir.Syntax.{w64}
-use mir.Val.{SFits}
+use mir.Syntax.{w16, w64}
+use mir.Val.{Fits, SFits}
 use Rattle.definitions.specs.Job.{naturalTo, vertexField, weightField}
 use Rattle.text_model.specs.Numbers.{plus, minus, weight-plus, weight-minus}
 use Rattle.text_model.specs.Scan.{within-most}
@@ -59,8 +59,8 @@ pub no-corner : (s : List ℕ) → naturalTo 65535 s ≡ none → NoCorner ≡ a
 unfolding vertexField
 no-corner s e = rw e
 
-pub corner-fits : (s : List ℕ) (k : ℕ) → naturalTo 65535 s ≡ some k → k ≤ 65535
-corner-fits s k e = within-most 65535 s k e
+pub corner-fits : (s : List ℕ) (k : ℕ) (r : Number) → r ≡ asNumber (naturalTo 65535 s) → r ≡ Value k → Fits w16 k
+corner-fits s k r e f = omega (arith, within-most 65535 s k (number-value (naturalTo 65535 s) k r e f))
 
 pub plus-is : (o : Option ℕ) (k : ℕ) (z : ℤ) → o ≡ some k → z ≡ pos k → Weighs z ≡ asWeight (plus o)
 unfolding plus
@@ -92,14 +92,15 @@ weight-empty [] e = refl
 weight-empty (b ∷ s) e = absurd (omega arith)
 
 -- the part of a slice from 1 on, as a loan of `&s[1..]` has it, is what stands after the minus
-pub weight-signed : (s : List ℕ) → 0 < length s → getD s 0 0 ≡ 45 → asWeight (minus (naturalTo 2147483648 (take (length s - 1) (drop 1 s))))
-    ≡ asWeight (weightField s)
-weight-signed [] h e = absurd (omega arith)
-weight-signed (b ∷ s) h e = rw (weight-minus b s e, take-all (suc (length s) - 1) s (omega arith))
+pub weight-signed : (s : List ℕ) (r : Weight) → (length s ≡ 0 → ⊥) → getD s 0 0 ≡ 45
+    → r ≡ asWeight (minus (naturalTo 2147483648 (take (length s - 1) (drop 1 s)))) → r ≡ asWeight (weightField s)
+weight-signed [] r h e f = absurd (h refl)
+weight-signed (b ∷ s) r h e f = rw (weight-minus b s e) (rw (take-all (suc (length s) - 1) s (omega arith)) at f)
 
-pub weight-plain : (s : List ℕ) → 0 < length s → (getD s 0 0 ≡ 45 → ⊥) → asWeight (plus (naturalTo 2147483647 s)) ≡ asWeight (weightField s)
-weight-plain [] h e = absurd (omega arith)
-weight-plain (b ∷ s) h e = rw (weight-plus b s e)
+pub weight-plain : (s : List ℕ) (r : Weight) → (length s ≡ 0 → ⊥) → (getD s 0 0 ≡ 45 → ⊥) → r ≡ asWeight (plus (naturalTo 2147483647 s))
+    → r ≡ asWeight (weightField s)
+weight-plain [] r h e f = absurd (h refl)
+weight-plain (b ∷ s) r h e f = rw (weight-plus b s e) f
 
 -- ---- a number of 32 bits and its opposite among the numbers of 64 bits
 

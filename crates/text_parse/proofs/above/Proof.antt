@@ -7,7 +7,7 @@ use Rattle.text_parse.proofs.above.Statement.{statement}
 use Rattle.text_parse.proofs.above.Tie as tie
 
 returns : tie.Need-returns
-returns c = toZ-pos w64 (c .args .k) (omega (arith, c .fits .k))
+returns c = toZ-pos w64 _ (omega arith)
 
 pub above-spec : {M : Type 1} → statement M
 above-spec = tie.close (tie.spec (λ c. search needs) returns)

@@ -9,10 +9,14 @@ use Rattle.text_parse.proofs.below.Statement.{statement}
 use Rattle.text_parse.proofs.below.Tie as tie
 
 sub-result : tie.Need-sub-result
-sub-result c = rw (toZ-pos w64 (c .args .k) (omega (arith, c .fits .k))) (opposite-fits (c .args .k) (c .fits .k .fits))
+sub-result c =
+    let k = c .args .k in
+    rw (toZ-pos w64 k (omega arith)) (opposite-fits k (search))
 
 returns : tie.Need-returns
-returns c = rw (toZ-pos w64 (c .args .k) (omega (arith, c .fits .k)), toZ-ofZ (opposite-fits (c .args .k) (c .fits .k .fits))) (opposite-is (c .args .k))
+returns c =
+    let k = c .args .k in
+    rw (toZ-pos w64 k (omega arith), toZ-ofZ (opposite-fits k (search))) (opposite-is k)
 
 pub below-spec : {M : Type 1} → statement M
 below-spec = tie.close (tie.spec (λ c. search needs) sub-result returns)

@@ -8,13 +8,13 @@ use Rattle.text_parse.proofs.natural_to.Statement.{statement}
 use Rattle.text_parse.proofs.natural_to.Tie as tie
 
 returns : tie.Need-returns
-returns c = ap asNumber (sym (none-empty _ _ (c .if1 .taken)))
+returns c = search none-empty
 
 returns-2 : tie.Need-returns-2
-returns-2 c = search (one-scan, asNumber)
+returns-2 c = search one-scan
 
 returns-3 : tie.Need-returns-3
-returns-3 c = ap asNumber (sym (none-zero _ _ (omega arith) (c .if3 .taken)))
+returns-3 c = ap asNumber (sym (none-zero _ _ (omega arith) (search)))
 
 returns-4 : tie.Need-returns-4
 returns-4 c = c .digits-to2 .ensures ∙ ap asNumber (sym (more-scan _ _ (omega arith) (search)))

@@ -1,5 +1,4 @@
 -- `text_parse::next_line` meets its contract. Past the end, at an LF, and with no LF left. Assumes nothing.
-use mathlib.Core.Path.{sym}
 use borrow.Author.Needs.{needs}
 use Rattle.text_model.specs.Positions.{nextLine-past}
 use Rattle.text_parse.specs.LineSteps.{next-some, next-none}
@@ -7,7 +6,7 @@ use Rattle.text_parse.proofs.next_line.Statement.{statement}
 use Rattle.text_parse.proofs.next_line.Tie as tie
 
 returns : tie.Need-returns
-returns c = sym (nextLine-past _ _ (c .if1 .taken))
+returns c = search nextLine-past
 
 returns-2 : tie.Need-returns-2
 returns-2 c = search next-some

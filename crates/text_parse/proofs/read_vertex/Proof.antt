@@ -1,5 +1,4 @@
 -- `text_parse::read_vertex` meets its contract. What was read is at most 65,535, so it fits 16 bits. Assumes nothing.
-use native.Mathlib.Omega.{arith}
 use borrow.Author.Needs.{needs}
 use Rattle.text_parse.specs.NumberAnswers.{number-value, number-broken, corner-is, no-corner, corner-fits}
 use Rattle.text_parse.proofs.read_vertex.Statement.{statement}
@@ -9,7 +8,7 @@ returns : tie.Need-returns
 returns c = search (number-broken, no-corner)
 
 cast-t4 : tie.Need-cast-t4
-cast-t4 c = omega (arith, corner-fits _ _ (number-value _ _ _ (c .before .before .before .natural-to .ensures) (c .before .k .given .1)))
+cast-t4 c = search corner-fits
 
 returns-2 : tie.Need-returns-2
 returns-2 c = search (number-value, corner-is)

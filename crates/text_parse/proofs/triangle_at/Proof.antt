@@ -1,15 +1,14 @@
 -- `text_parse::triangle_at` meets its contract. The line up to its LF; with no LF there is no line. Assumes nothing.
 use borrow.Author.Needs.{needs}
-use Rattle.definitions.specs.Job.{triangleLine}
 use Rattle.text_model.specs.Reading.{line-of, no-line-of}
 use Rattle.text_parse.proofs.triangle_at.Statement.{statement}
 use Rattle.text_parse.proofs.triangle_at.Tie as tie
 
 returns : tie.Need-returns
-returns c = search (triangleLine, no-line-of)
+returns c = search no-line-of
 
 returns-2 : tie.Need-returns-2
-returns-2 c = search (triangleLine, line-of)
+returns-2 c = search line-of
 
 pub triangle-at-spec : {M : Type 1} → statement M
 triangle-at-spec =
