@@ -1,5 +1,5 @@
 -- An iteration of each loop, and a sign, in the shape in which the code hands them over. Assumes nothing.
-use Prim.Native.Nat.{ℕ, zero, suc, _+_, _-_, _/_, _%_, _≤_, _<_}
+use Prim.Native.Nat.{ℕ, zero, suc, _+_, _-_, _/_, _%_, _^_, _≤_, _<_}
 use mathlib.Core.Path.{_≡_, refl, sym, ap, _∙_}
 use mathlib.Core.Bool.{Bool, true, false, true≢false}
 use mathlib.Core.List.{List, [], _∷_, _++_}
@@ -8,9 +8,31 @@ use lib.ListN.{length, take, drop, set, length-append, take-append-drop, List·g
 use lib.Seq.{take-all, drop-at}
 use lib.IntN.{ℤ, pos, natAbs}
 use lib.Signed.{ltZ}
+use mir.Syntax.{w64}
+use mir.Val.{SFits, ofZ, toZ}
+use mir.Facts.{toZ-ofZ}
 use Rattle.definitions.specs.Job.{value, decimal}
-use Rattle.text_model.specs.Numbers.{numeral, numeral-digits, numeral-value, signed, decimal-signed, Last, last-digit}
-use Rattle.text_model.specs.Writing.{Puts, fill-back}
+use Rattle.text_model.specs.Numbers.{numeral, numeral-short, count-one, count-more, numeral-digits, numeral-value, signed, decimal-signed, Last, last-digit}
+use Rattle.text_model.specs.Writing.{Puts, Wrote, fill-back}
+
+-- ---- how many digits n has
+
+-- c digits are counted, the last of them being the first digit of the m that is left
+pub record Counted (n m c : ℕ) : Type 0 where
+  pub all : c + length (numeral m) ≡ length (numeral n) + 1
+  pub short : length (numeral n) ≤ 20
+
+pub counted-none : (n : ℕ) → n < 2 ^ 64 → Counted n n 1
+counted-none n h = record { all = omega arith; short = numeral-short n h }
+
+pub counted-more : (n m c : ℕ) → Counted n m c → 10 ≤ m → Counted n (m / 10) (c + 1)
+counted-more n m c a h = record { all = omega (arith, count-more m h); short = a .short }
+
+pub counted-all : (n m c : ℕ) → Counted n m c → m < 10 → c ≡ length (numeral n)
+counted-all n m c a h = omega (arith, count-one m h)
+
+pub counted-few : (n m c : ℕ) → Counted n m c → m < 10 → c ≤ 20
+counted-few n m c a h = omega (arith, count-one m h)
 
 -- ---- digits, from the last to the first
 
@@ -61,18 +83,27 @@ unfolding signed
 with-minus true m e = refl
 with-minus false m e = absurd (true≢false (sym e))
 
+pub minus-counted : (x : Bool) (m r : ℕ) → x ≡ true → r ≡ length (numeral m) → r + 1 ≡ length (signed x m)
+minus-counted x m r e h = rw (with-minus x m e) (omega arith)
+
 pub with-none : (x : Bool) (m : ℕ) → x ≡ false → signed x m ≡ numeral m
 unfolding signed
 with-none true m e = absurd (true≢false e)
 with-none false m e = refl
 
-pub minus-room : (x : Bool) (m : ℕ) (out : List ℕ) → x ≡ true → length (signed x m) ≤ length out →
-    length ((45 ∷ []) ++ numeral m) ≤ length out
-minus-room x m out e h = rw (with-minus x m e) at h
-
 pub none-room : (x : Bool) (m : ℕ) (out : List ℕ) → x ≡ false → length (signed x m) ≤ length out → length (numeral m) ≤ length out
 none-room x m out e h = rw (with-none x m e) at h
 
--- a sign and an absolute value that were found of z
-pub decimal-found : (z : ℤ) (x : Bool) (m : ℕ) → x ≡ ltZ z (pos 0) → m ≡ natAbs z → decimal z ≡ signed x m
-decimal-found z x m e f = rw (e, f) (decimal-signed z)
+-- a sign and an absolute value that were found of z, which was handed over as bits
+module _ (z : ℤ) (x : Bool) (m : ℕ) (f : SFits w64 z) (e : x ≡ ltZ (toZ w64 (ofZ w64 z)) (pos 0)) (g : m ≡ natAbs (toZ w64 (ofZ w64 z))) where
+  found : decimal z ≡ signed x m
+  found = rw (e, g, toZ-ofZ f) (decimal-signed z)
+
+  pub decimal-counted : (r : ℕ) → r ≡ length (signed x m) → r ≡ length (decimal z)
+  decimal-counted r h = rw found h
+
+  pub decimal-room : (out : List ℕ) → length (decimal z) ≤ length out → length (signed x m) ≤ length out
+  decimal-room out h = rw found at h
+
+  pub decimal-wrote : (old out : List ℕ) (r : ℕ) → Wrote (signed x m) old out r → Wrote (decimal z) old out r
+  decimal-wrote old out r h = rw found h

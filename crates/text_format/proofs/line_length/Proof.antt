@@ -5,8 +5,7 @@ use Rattle.text_format.proofs.line_length.Statement.{statement}
 use Rattle.text_format.proofs.line_length.Tie as tie
 
 returns : tie.Need-returns
-returns c = let start = c .before .before in
-    counts-line (start .args .word .now) (start .args .xs .now) _ (search) (search) (start .pre .0)
+returns c = search (counts-line, needs)
 
 pub line-length-spec : {M : Type 1} → statement M
 line-length-spec = tie.close (tie.spec (λ c κs. search needs) (λ c. search needs) (λ c. search needs) returns)

@@ -5,7 +5,7 @@ use Rattle.text_format.proofs.put_byte.Statement.{statement}
 use Rattle.text_format.proofs.put_byte.Tie as tie
 
 returns : tie.Need-returns
-returns c = wrote-byte (c .args .b) (c .args .out .now) (c .pre)
+returns c = search wrote-byte
 
 pub put-byte-spec : {M : Type 1} → statement M
 put-byte-spec = tie.close (tie.spec (λ c. search needs) (λ c. search needs) returns)

@@ -1,67 +1,31 @@
--- `text_format::put_fields` meets its contract. The loop's invariant: the fields so far stand at the front. Assumes nothing.
-use mathlib.Core.Path.{_≡_}
-use mathlib.Core.List.{_∷_}
-use Prim.Native.Nat.{_-_, _≤_}
+-- `text_format::put_fields` meets its contract. The loop's invariant, `Fields`: the fields so far stand at the front. Assumes nothing.
+use Prim.Native.Nat.{suc, _+_, _-_, _≤_, _<_}
 use native.Mathlib.Omega.{arith}
 use lib.ListN.{length, getD, take}
 use lib.IntN.{pos}
 use borrow.Author.Needs.{needs}
-use Rattle.definitions.specs.Job.{TAB, decimal}
-use Rattle.text_model.specs.Writing.{Wrote, wrote-then, rest-room, rest-start, tabbed}
-use Rattle.text_format.specs.LineLoops.{field-room, fields-none, fields-more, fields-all, fields-kept}
+use Rattle.definitions.specs.Job.{decimal}
+use Rattle.text_model.specs.Writing.{tabbed}
+use Rattle.text_format.specs.LineLoops.{Fields, field-room, fields-none, fields-more, fields-all}
 use Rattle.text_format.proofs.put_fields.Statement.{statement}
 use Rattle.text_format.proofs.put_fields.Tie as tie
 
 abbrev Inv-loop : tie.InvT-loop
-Inv-loop xs out₀ at₀ k₀ out at k = (k ≤ length xs) × (length out ≡ length out₀) × Wrote (tabbed (take k xs)) out₀ out at
+Inv-loop xs out₀ at₀ k₀ out at k = Fields xs out₀ out at k
 
 abbrev μ-loop : tie.MeasureT-loop
 μ-loop xs out₀ at₀ k₀ out at k = length xs - k
 
+-- the next field has room
+room : (c : tie.Start Inv-loop μ-loop) (t : tie.At-loop Inv-loop μ-loop) → t .loop .k < length (c .args .xs .now) →
+    length (tabbed (take (t .loop .k) (c .args .xs .now))) + suc (length (decimal (getD (c .args .xs .now) (t .loop .k) (pos 0)))) ≤ length (c .args .out .now)
+room c t h = omega (arith, field-room (c .args .xs .now) (t .loop .k) h)
+
 loop-holds : tie.Need-loop-holds Inv-loop μ-loop
-loop-holds c = search (fields-none, needs)
-
-sub-put-field : tie.Need-sub-put-field Inv-loop μ-loop
-sub-put-field c =
-    let start = c .before .before .before in
-    rest-start (tabbed (take (c .before .loop .k) (start .args .xs .now))) (TAB ∷ decimal (getD (start .args .xs .now) (c .before .loop .k) (pos 0))) _ _ _
-    (c .before .loop .inv .2) (c .before .loop .inv .1) (field-room (start .args .xs .now) (c .before .loop .k) (c .loop-test .taken)
-    (start .args .out .now) (start .pre))
-
-part-put-field-start : tie.Need-part-put-field-start Inv-loop μ-loop
-part-put-field-start c =
-    let start = c .before .before .before in
-    rest-start (tabbed (take (c .before .loop .k) (start .args .xs .now))) (TAB ∷ decimal (getD (start .args .xs .now) (c .before .loop .k) (pos 0))) _ _ _
-    (c .before .loop .inv .2) (c .before .loop .inv .1) (field-room (start .args .xs .now) (c .before .loop .k) (c .loop-test .taken)
-    (start .args .out .now) (start .pre))
-
-put-field-requires : tie.Need-put-field-requires Inv-loop μ-loop
-put-field-requires c κs = let start = c .before .before .before .before in
-    let loop-at = c .before .before in (
-      c .before .loop-test .taken,
-      rest-room (tabbed (take (loop-at .loop .k) (start .args .xs .now)))
-          (TAB ∷ decimal (getD (start .args .xs .now) (loop-at .loop .k) (pos 0))) _ _ _ (loop-at .loop .inv .2) (loop-at .loop .inv .1)
-          (field-room (start .args .xs .now) (loop-at .loop .k) (search) (start .args .out .now) (start .pre)),
-    )
-
-add-at : tie.Need-add-at Inv-loop μ-loop
-add-at c =
-    let start = c .before .before .before .before .before .before .before in
-    let loop-at = c .before .before .before .before .before in
-    let turn = c .before .before .before .before in
-    let at-put-field = c .before .before in
-    let q = wrote-then (tabbed (take (loop-at .loop .k) (start .args .xs .now))) (TAB ∷ decimal (getD (start .args .xs .now) (loop-at .loop .k) (pos 0))) _
-    _ _ _ _ (loop-at .loop .inv .2) (at-put-field .put-field .ensures) in
-    omega (arith, q .count, field-room (start .args .xs .now) (loop-at .loop .k) (turn .loop-test .taken) (start .args .out .now) (start .pre), start .good)
-
-add-k : tie.Need-add-k Inv-loop μ-loop
-add-k c = omega arith
-
-loop-less : tie.Need-loop-less Inv-loop μ-loop
-loop-less c = omega arith
+loop-holds c = search fields-none
 
 loop-again : tie.Need-loop-again Inv-loop μ-loop
-loop-again c = search (fields-more, fields-kept, needs)
+loop-again c = search fields-more
 
 returns : tie.Need-returns Inv-loop μ-loop
 returns c = search fields-all
@@ -73,13 +37,13 @@ put-fields-spec =
     Inv-loop
     μ-loop
     loop-holds
-    sub-put-field
-    part-put-field-start
+    (λ c. omega (arith, room (search) (search) (search)))
+    (λ c. omega (arith, room (search) (search) (search)))
     (λ c. search needs)
-    put-field-requires
-    add-at
-    add-k
-    loop-less
+    (λ c κs. omega (arith, room (search) (search) (search)))
+    (λ c. omega (arith, room (search) (search) (search)))
+    (λ c. search needs)
+    (λ c. search needs)
     loop-again
     (λ c. search needs)
     returns)

@@ -1,16 +1,11 @@
 -- `text_format::signed_length` meets its contract. One byte more for a minus. Assumes nothing.
-use mathlib.Core.Path.{ap}
-use Prim.Native.Nat.{ℕ}
-use native.Mathlib.Omega.{arith}
-use lib.ListN.{length}
 use borrow.Author.Needs.{needs}
-use Rattle.text_format.specs.DigitLoops.{with-minus, with-none}
+use Rattle.text_format.specs.DigitLoops.{minus-counted, with-none}
 use Rattle.text_format.proofs.signed_length.Statement.{statement}
 use Rattle.text_format.proofs.signed_length.Tie as tie
 
 returns : tie.Need-returns
-returns c = let e = ap {B = ℕ} length (with-minus (c .before .before .args .minus) (c .before .before .args .m) (c .if1 .taken)) in
-    (omega arith)
+returns c = search (minus-counted, needs)
 
 returns-2 : tie.Need-returns-2
 returns-2 c = search (with-none, needs)
