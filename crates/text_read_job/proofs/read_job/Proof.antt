@@ -1,5 +1,4 @@
 -- `text_read_job::read_job` meets its contract. 19 first, then the first line, then 1, then the other lines. Assumes nothing.
-use mathlib.Core.Path.{sym}
 use borrow.Author.Needs.{needs}
 use Rattle.text_model.specs.Reading.{job-long}
 use Rattle.text_read_job.specs.Parts.{whole-broken, whole-few, whole-many, whole-body}
@@ -7,7 +6,7 @@ use Rattle.text_read_job.proofs.read_job.Statement.{statement}
 use Rattle.text_read_job.proofs.read_job.Tie as tie
 
 returns : tie.Need-returns
-returns c = (sym (job-long _ (c .if1 .taken)), tt)
+returns c = search job-long
 
 returns-2 : tie.Need-returns-2
 returns-2 c = search whole-broken
