@@ -7,7 +7,7 @@ use Rattle.text_write_listing.proofs.number.Statement.{statement}
 use Rattle.text_write_listing.proofs.number.Tie as tie
 
 returns : tie.Need-returns
-returns c = toZ-pos w64 (c .args .k) (omega (arith, c .pre))
+returns c = toZ-pos w64 _ (omega arith)
 
 pub number-spec : {M : Type 1} → statement M
 number-spec = tie.close (tie.spec (λ c. search needs) returns)

@@ -1,15 +1,14 @@
 -- `text_write_listing::put_head` meets its contract. The line by its numbers. Assumes nothing.
-use mir.Facts.{toZ-ofZ}
 use borrow.Author.Needs.{needs}
-use Rattle.text_write_listing.specs.LoopInvariants.{head-line, has-room, wrote-as}
+use Rattle.text_write_listing.specs.LoopInvariants.{head-room, head-wrote}
 use Rattle.text_write_listing.proofs.put_head.Statement.{statement}
 use Rattle.text_write_listing.proofs.put_head.Tie as tie
 
 put-line-requires : tie.Need-put-line-requires
-put-line-requires c κs = search (head-line, has-room, toZ-ofZ)
+put-line-requires c κs = search head-room
 
 returns : tie.Need-returns
-returns c = search (head-line, wrote-as, toZ-ofZ)
+returns c = search head-wrote
 
 pub put-head-spec : {M : Type 1} → statement M
 put-head-spec =

@@ -1,46 +1,32 @@
 -- `text_write_listing::put_listing` meets its contract. The first line at the front, and the others into the rest. Assumes nothing.
+use Prim.Native.Nat.{_+_, _≤_}
 use native.Mathlib.Omega.{arith}
-use mir.Facts.{toZ-ofZ}
+use lib.ListN.{length}
+use mir.Syntax.{w64}
+use mir.Val.{ofZ, toZ}
 use borrow.Author.Needs.{needs}
-use Rattle.text_model.specs.Writing.{headOf, vertexLines, rest-room, rest-start}
-use Rattle.text_write_listing.specs.LoopInvariants.{head-room, head-as, whole-room, wrote-whole}
+use Rattle.text_model.specs.Writing.{headOf, vertexLines}
+use Rattle.text_write_listing.specs.LoopInvariants.{whole-room, whole-wrote}
 use Rattle.text_write_listing.proofs.put_listing.Statement.{statement}
 use Rattle.text_write_listing.proofs.put_listing.Tie as tie
 
-put-head-requires : tie.Need-put-head-requires
-put-head-requires c κs = search (head-room, toZ-ofZ)
-
-sub-put-vertices : tie.Need-sub-put-vertices
-sub-put-vertices c = search (headOf, vertexLines, rest-start, head-as, whole-room, toZ-ofZ)
-
-part-put-vertices-start : tie.Need-part-put-vertices-start
-part-put-vertices-start c = search (headOf, vertexLines, rest-start, head-as, whole-room, toZ-ofZ)
-
-put-vertices-requires : tie.Need-put-vertices-requires
-put-vertices-requires c κs = search (headOf, vertexLines, rest-room, head-as, whole-room, toZ-ofZ)
-
-add-result : tie.Need-add-result
-add-result c =
-    let start = c .before .before .before .before .before .before .before .before .before in
-    let at-put-head = c .before .before .before .before .before .before in
-    let at-put-vertices = c .before .before in
-    let q = wrote-whole (start .args .n) (start .args .total) (start .args .raises) (start .args .bs .now) (start .args .out .now) _ _ _ _
-    (head-as (start .args .n) (start .args .total) _ (start .args .raises) (start .args .out .now) _ _ (toZ-ofZ (start .fits .total))
-    (at-put-head .put-head .ensures)) (at-put-vertices .put-vertices .ensures) in
-    omega (arith, q .count, start .pre .2, start .good)
+-- the first line, whose N goes by its bits, and the others have room
+room : (c : tie.Start) → length (headOf (c .args .n) (toZ w64 (ofZ w64 (c .args .total))) (c .args .raises))
+    + length (vertexLines (c .args .bs .now) (c .args .n)) ≤ length (c .args .out .now)
+room c = search whole-room
 
 returns : tie.Need-returns
-returns c = search (head-as, wrote-whole, toZ-ofZ)
+returns c = search whole-wrote
 
 pub put-listing-spec : {M : Type 1} → statement M
 put-listing-spec =
     tie.close
     (tie.spec
-    put-head-requires
-    sub-put-vertices
-    part-put-vertices-start
+    (λ c κs. omega (arith, room (search)))
+    (λ c. omega (arith, room (search)))
+    (λ c. omega (arith, room (search)))
     (λ c. search needs)
-    put-vertices-requires
-    add-result
+    (λ c κs. omega (arith, room (search)))
+    (λ c. omega (arith, room (search)))
     (λ c. search needs)
     returns)

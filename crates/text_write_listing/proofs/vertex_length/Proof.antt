@@ -1,13 +1,11 @@
 -- `text_write_listing::vertex_length` meets its contract. The line by its numbers. Assumes nothing.
 use borrow.Author.Needs.{needs}
-use Rattle.text_write_listing.specs.LoopInvariants.{vertex-line, counts-as}
+use Rattle.text_write_listing.specs.LoopInvariants.{vertex-counted}
 use Rattle.text_write_listing.proofs.vertex_length.Statement.{statement}
 use Rattle.text_write_listing.proofs.vertex_length.Tie as tie
 
 returns : tie.Need-returns
-returns c = let start = c .before .before .before .before in
-    let at-vertex-numbers = c .before .before .before in
-    counts-as _ _ _ (vertex-line (start .args .bs .now) (start .args .i) _ (at-vertex-numbers .vertex-numbers .ensures)) (search)
+returns c = search vertex-counted
 
 pub vertex-length-spec : {M : Type 1} → statement M
 vertex-length-spec =
