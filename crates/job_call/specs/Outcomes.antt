@@ -6,7 +6,8 @@ use mathlib.Core.Bool.{Bool, true, false}
 use mathlib.Core.List.{List, _∷_}
 use native.Mathlib.Omega.{arith}
 use lib.Dec.{ltb}
-use lib.ListN.{length, take, replicate}
+use lib.ListN.{length, take, replicate, length-replicate}
+use lib.Seq.{length-take-le}
 use lib.IntN.{ℤ, pos, natAbs}
 use borrow.Author.Tests.{ltb-false}
 use Rattle.definitions.specs.Lists.{total, totalAbs}
@@ -34,6 +35,11 @@ use Rattle.job_call.specs.Model.{ran, Fitting, outcome, hostNumber}
 use Rattle.job_call.specs.declared.JobAnswer.{JobAnswer}
 use Rattle.job_call.specs.declared.JobAnswer.the-variants.{Listed as listed, Refused, Broken}
 use Rattle.job_call.specs.Answer.{jobToAnswer, Near, Ends}
+
+-- an end, clause by clause
+pub ended : {a : Answer (List ℕ)} {before after : List ℕ} {r : JobAnswer} → Ends a before after r →
+    (jobToAnswer r ≡ outcome a before .answer) × ((after ≡ outcome a before .buffer) × Near r)
+ended e = (e .answer, (e .buffer, e .line))
 
 -- ---- a text
 
@@ -67,12 +73,29 @@ module _ (text : List ℕ) where
     run-finish n e before after a h =
         rw (run-job (record { n = n; triangles = take (3 * (2 * n - 4)) vs; weights = take (2 * n - 5) xs }) (sym read ∙ ap (λ x. answerOf x vs xs) e)) h
 
-pub job-sized : (r : Reading) (n : ℕ) → r ≡ Read n → Sized r → (3 ≤ n) × (n ≤ 256)
-job-sized r n e s = rw e at s
+-- a job's size, and the parts that are lent of the slices it was read into
+module _ (r : Reading) (n : ℕ) (e : r ≡ Read n) (s : Sized r) where
+  pub job-sized : (3 ≤ n) × (n ≤ 256)
+  job-sized = rw e at s
+
+  pub triangles-lent : (vs : List ℕ) → length vs ≡ length (replicate {A = ℕ} 1524 0) → 3 * (2 * n - 4) ≡ length (take (3 * (2 * n - 4)) vs)
+  triangles-lent vs l = sym (length-take-le (3 * (2 * n - 4)) vs (omega (arith, job-sized, length-replicate {A = ℕ} 1524 0)))
+
+  pub weights-lent : (xs : List ℤ) → length xs ≡ length (replicate 507 (pos 0)) → 2 * n - 5 ≡ length (take (2 * n - 5) xs)
+  weights-lent xs l = sym (length-take-le (2 * n - 5) xs (omega (arith, job-sized, length-replicate 507 (pos 0))))
+
+  pub job-fitting : (vs : List ℕ) (xs : List ℤ) → length vs ≡ length (replicate {A = ℕ} 1524 0) → length xs ≡ length (replicate 507 (pos 0)) →
+      Fitting n (take (3 * (2 * n - 4)) vs) (take (2 * n - 5) xs)
+  job-fitting vs xs k l =
+      record { least = job-sized .0; most = job-sized .1; triangles = sym (triangles-lent vs k); weights = sym (weights-lent xs l) }
+
+-- the front of an array of zeros
+pub zeros-lent : (k m : ℕ) → k ≤ m → k ≡ length (take k (replicate m (pos 0)))
+zeros-lent k m h = sym (length-take-le k (replicate m (pos 0)) (omega (arith, length-replicate m (pos 0))))
 
 -- ---- the host's number
 
-pub host : (text buffer : List ℕ) →
+host : (text buffer : List ℕ) →
     (hostNumber (outcome (runJob text) buffer .answer) ≡ hostCall text buffer .number)
     × (outcome (runJob text) buffer .buffer ≡ hostCall text buffer .listing)
 unfolding hostCall
@@ -89,6 +112,9 @@ host text buffer = go (runJob text) refl
         × (outcome (runJob text) buffer .buffer ≡ hostCall text buffer .listing)
     go (refused why) e = rw (e, hostCall) (refl, refl)
     go (done bytes) e = room bytes e (ltb (length buffer) (length bytes)) refl
+
+pub host-buffer : (text before after : List ℕ) → after ≡ outcome (runJob text) before .buffer → after ≡ hostCall text before .listing
+host-buffer text before after e = e ∙ host text before .1
 
 -- a line that is named leaves the number room in 64 bits
 pub near-line : (r : JobAnswer) → Near r → (l : ℕ) → r ≡ Broken l → l ≤ 1017

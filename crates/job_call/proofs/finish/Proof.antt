@@ -1,23 +1,15 @@
 -- `job_call::finish` meets its contract: each answer of repair gives one end of the job. Assumes nothing.
-use Prim.Native.Nat.{_*_}
-use mathlib.Core.Path.{sym}
 use native.Mathlib.Omega.{arith}
-use lib.ListN.{replicate, length-replicate}
-use lib.Seq.{length-take-le}
-use lib.IntN.{pos}
-use Rattle.job_call.specs.Outcomes.{few-raises, finish-listed, finish-refused, finish-stopped}
 use borrow.Author.Needs.{needs}
+use Rattle.job_call.specs.Outcomes.{zeros-lent, few-raises, finish-listed, finish-refused, finish-stopped}
 use Rattle.job_call.proofs.finish.Statement.{statement}
 use Rattle.job_call.proofs.finish.Tie as tie
 
 slice-aggregate-places : tie.Need-slice-aggregate-places
-slice-aggregate-places c = let start = c .before .before .before in
-    sym (length-take-le (3 * start .args .n) (replicate 768 (pos 0)) (omega (arith, start .pre .most, length-replicate 768 (pos 0))))
+slice-aggregate-places c = zeros-lent _ 768 (omega arith)
 
 slice-aggregate-repair : tie.Need-slice-aggregate-repair
-slice-aggregate-repair c =
-    let start : tie.Start = search in
-    let start = start in sym (length-take-le (24 * start .args .n) (replicate 6144 (pos 0)) (omega (arith, start .pre .most, length-replicate 6144 (pos 0))))
+slice-aggregate-repair c = zeros-lent _ 6144 (omega arith)
 
 list-requires : tie.Need-list-requires
 list-requires c κs = search (few-raises, needs)
