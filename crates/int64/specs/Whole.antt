@@ -145,3 +145,7 @@ pub argument-size : (a : ℤ) → SFits w64 a → natAbs (toZ w64 (ofZ w64 a)) �
 argument-size a f = held-size a
 
 pub ruleset sizes = (arith, result-size, argument-size)
+
+-- the same by what the result is, where a bound of that is known
+pub value-size : (r z : ℤ) → r ≡ z → natAbs (toZ w64 (ofZ w64 r)) ≤ natAbs z
+value-size r z e = rw (← e) (held-size r)

@@ -69,7 +69,7 @@ pub fn labels(n: usize, triangles: &[u16], labels: &mut [u8], scratch: &mut [i64
     ensures labels { λ r. ⌜ now (labels .exit) ≡ labelsCall n (now (triangles .entry)) (now (labels .entry)) (now (scratch .entry)) .labels ⌝ }
     ensures scratch { λ r. ⌜ now (scratch .exit) ≡ labelsCall n (now (triangles .entry)) (now (labels .entry)) (now (scratch .entry)) .scratch ⌝ }
 {
-    let number = labels_rows(n, triangles.len(), scratch.len(), labels.len());
+    let number = labels_rows(n, triangles.len(), labels.len(), scratch.len());
     if number != 0 {
         return LabelsAnswer::Refused(number);
     }

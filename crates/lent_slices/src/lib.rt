@@ -96,7 +96,7 @@ pub fn mesh_rows(n: usize, triangles: usize, scratch: usize) -> u32
 }
 
 // the same for the labels call
-pub fn labels_rows(n: usize, triangles: usize, scratch: usize, labels: usize) -> u32
+pub fn labels_rows(n: usize, triangles: usize, labels: usize, scratch: usize) -> u32
     ensures { λ r. ⌜ r ≡ firstRows n (slice triangles (trianglesLength n) ∷ slice scratch (scratchLength n) ∷ slice labels (labelsLength n) ∷ []) ⌝ }
 {
     if other_size(n) {
@@ -114,9 +114,9 @@ pub fn labels_rows(n: usize, triangles: usize, scratch: usize, labels: usize) ->
 pub fn map_rows(
     n: usize,
     triangles: usize,
-    scratch: usize,
     weights: usize,
     coordinates: usize,
+    scratch: usize,
 ) -> u32
     ensures { λ r. ⌜ r ≡ firstRows n (slice triangles (trianglesLength n) ∷ slice scratch (scratchLength n) ∷ slice weights (weightsLength n) ∷ slice coordinates (coordinatesLength n) ∷ []) ⌝ }
 {

@@ -76,6 +76,12 @@ module _ (bs : List ℤ) (w : ℕ → ℕ) (d : ℕ) where
   unfolding below
   below-c c i j e = rw (ne-eqb (labelAcross w d) (2 - c) e)
 
+-- the weight from its parts: the vertices i, j, k of the darts p, q, g, and three slopes
+pub weightFrom-made : (bs : List ℤ) (w : ℕ → ℕ) (ts : List ℕ) (g p q i j k : ℕ) (x y z r : ℤ) → i ≡ org ts p → j ≡ org ts q → k ≡ org ts g →
+    x ≡ above bs w p i j → y ≡ below bs w g 1 k i → z ≡ below bs w q 0 k j → r ≡ x -ℤ y -ℤ z → r ≡ weightFrom bs w ts g p q
+unfolding weightFrom
+weightFrom-made bs w ts g p q i j k x y z r ei ej ek ex ey ez er = rw (er, ex, ey, ez, ei, ej, ek)
+
 -- the list of weights, entry by entry
 module _ (bs : List ℤ) (w : ℕ → ℕ) (ts : List ℕ) where
   pub length-weights : length (weights bs w ts) ≡ length ts / 3 - 1

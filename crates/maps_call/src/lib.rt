@@ -62,9 +62,9 @@ pub fn forward(
     let number = map_rows(
         n,
         triangles.len(),
-        scratch.len(),
         weights.len(),
         coordinates.len(),
+        scratch.len(),
     );
     if number != 0 {
         return MapAnswer::Refused(number);
@@ -121,9 +121,9 @@ pub fn backward(
     let number = map_rows(
         n,
         triangles.len(),
-        scratch.len(),
         weights.len(),
         coordinates.len(),
+        scratch.len(),
     );
     if number != 0 {
         return MapAnswer::Refused(number);

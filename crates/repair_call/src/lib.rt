@@ -70,9 +70,9 @@ pub fn repair(
     let number = map_rows(
         n,
         triangles.len(),
-        scratch.len(),
         weights.len(),
         coordinates.len(),
+        scratch.len(),
     );
     if number != 0 {
         return RepairAnswer::Refused(number);

@@ -40,19 +40,24 @@ added ws ws′ t x h e = e ∙ sym (add-place ws t x h)
 pub weight-light : (ws : List ℤ) (i : ℕ) → i < length ws → totalAbs ws ≤ limit → natAbs (getD ws i (pos 0)) ≤ limit
 weight-light ws i h l = omega (arith, totalAbs-in (getD-in ws i (pos 0) h))
 
--- the new sum
-pub sum-is : (ws : List ℤ) (t sum : ℕ) (x w y : ℤ) (old new : ℕ) → SumPre ws t sum x → w ≡ getD ws (t - 1) (pos 0) → y ≡ w +ℤ x →
-    old ≡ natAbs w → new ≡ natAbs y →
-    (old ≤ sum) × (sum - old + new ≡ totalAbs (addTo ws t x))
-sum-is ws t sum x w y old new S ew ey eo en =
-    let h : t - 1 < length ws = omega (arith, S .positive, S .inside) in
-    let v = getD ws (t - 1) (pos 0) in
-    let a = ap natAbs ew in
-    let b = ap natAbs (ey ∙ ap (λ (z : ℤ). z +ℤ x) ew) in
-    let c = totalAbs-set ws (t - 1) (v +ℤ x) (pos 0) h in
-    let d = totalAbs-in (getD-in ws (t - 1) (pos 0) h) in
-    let e = ap totalAbs (add-place ws t x (S .positive)) in
-    (omega (arith, a, d, S .summed), omega (arith, a, b, c, d, e, S .summed))
+-- the sum without the old weight's part, and with that of the new one
+module _ (ws : List ℤ) (t sum : ℕ) (x : ℤ) (S : SumPre ws t sum x) where
+  abbrev here : ℤ
+  here = getD ws (t - 1) (pos 0)
+
+  place-in : t - 1 < length ws
+  place-in = omega (arith, S .positive, S .inside)
+
+  pub weight-in : natAbs here ≤ limit
+  weight-in = weight-light ws (t - 1) place-in (S .light)
+
+  pub sum-without : (old : ℕ) → old ≡ natAbs here → old ≤ sum
+  sum-without old e = omega (arith, totalAbs-in (getD-in ws (t - 1) (pos 0) place-in), S .summed)
+
+  pub sum-with : (old new : ℕ) → old ≡ natAbs here → new ≡ natAbs (here +ℤ x) → sum - old + new ≡ totalAbs (addTo ws t x)
+  sum-with old new eo en =
+      let c = totalAbs-set ws (t - 1) (here +ℤ x) (pos 0) place-in in
+      omega (arith, c, totalAbs-in (getD-in ws (t - 1) (pos 0) place-in), ap totalAbs (add-place ws t x (S .positive)), S .summed)
 
 -- ---- one raise
 
