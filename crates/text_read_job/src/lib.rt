@@ -31,12 +31,6 @@ pub enum Reading {
     Line(usize),
 }
 
-fn wide(x: u16) -> usize
-    ensures { λ r. ⌜ r ≡ x ⌝ }
-{
-    x as usize
-}
-
 // Triangle i.
 fn put_corners(triangles: &mut [u16], i: usize, a: u16, b: u16, c: u16)
     requires { ⌜ 3 * (i + 1) ≤ length (now triangles) ⌝ }
@@ -137,7 +131,7 @@ pub fn read_job(text: &[u8], triangles: &mut [u16], weights: &mut [i64]) -> Read
     let Vertex::Corner(v) = text_parse::head_at(text_reader::rest_from(text, 0)) else {
         return Reading::Line(1);
     };
-    let n = wide(v);
+    let n = int64::widen(v);
     if n < 3 {
         return Reading::Size;
     }
