@@ -1,4 +1,5 @@
--- Whole numbers that fit 64 bits, by their absolute values, and the tests of the code. Assumes nothing.
+-- Whole numbers that fit 64 bits, by their absolute values, and the tests of the code; and two sets of rules for the callers' proofs, `values` for `search`
+-- and `sizes` for `omega`. Assumes nothing.
 use Prim.Native.Nat.{ℕ, zero, suc, _+_, _-_, _*_, _≤_, _<_, _^_}
 use mathlib.Core.Path.{_≡_, refl}
 use mathlib.Core.Bool.{Bool, true, false}
@@ -35,7 +36,7 @@ abs-times (pos a) (negsuc b) = abs-neg (a * suc b)
 abs-times (negsuc a) (pos b) = abs-neg (suc a * b)
 abs-times (negsuc a) (negsuc b) = refl
 
--- sums, differences and products that fit
+-- sums and differences that fit
 pub fits-plus : (a b : ℤ) → natAbs a + natAbs b < 2 ^ 63 → SFits w64 (a +ℤ b)
 fits-plus a b h = fits-abs (a +ℤ b) (omega (arith, abs-+ a b))
 
@@ -98,7 +99,8 @@ held z h = toZ-ofZ (record { sfits = h })
 
 -- ---- what a call gave, read back from its bits
 
--- `search values` follows what each call says of its result: a signed result or argument is what the calls behind it say
+-- `search values` proves what a signed result or argument is: it follows what the calls behind it say, through sums, differences and products. A call of
+-- another kind joins by a law of the same shape, listed before the set.
 pub held-is : (r z : ℤ) → mag r < 2 ^ 63 → r ≡ z → toZ w64 (ofZ w64 r) ≡ z
 held-is r z h e = cc (held r h)
 
@@ -112,13 +114,14 @@ module _ (r s t x y : ℤ) (h : mag r < 2 ^ 63) where
   pub times-is : r ≡ s *ℤ t → s ≡ x → t ≡ y → toZ w64 (ofZ w64 r) ≡ x *ℤ y
   times-is e f g = rw (held r h, e, f, g)
 
+pub ruleset values = (held-is, plus-is, minus-is, times-is)
+
+-- laws to list before the set: what `magnitude` and `equal` say of such numbers
 pub size-is : (r : ℕ) (s z : ℤ) → r ≡ natAbs s → s ≡ z → r ≡ natAbs z
 size-is r s z e f = rw (← f) e
 
 pub equal-is : (r : Bool) (s t x y : ℤ) → r ≡ eqZ s t → s ≡ x → t ≡ y → r ≡ eqZ x y
 equal-is r s t x y e f g = rw (← f, ← g) e
-
-pub ruleset values = (held-is, plus-is, minus-is, times-is)
 
 -- no further from 0 than it was, whether or not it fits
 read-size : (n m : ℕ) → (n < 2 ^ 63 → n ≤ m) → (2 ^ 63 ≤ n → suc (2 ^ 64 - suc n) ≤ m) → natAbs (toZ w64 n) ≤ m
@@ -137,7 +140,8 @@ turned-size {a} f =
     let s = toZ w64 (ofZ w64 a) in
     omega (arith, held-size (negsuc 0 -ℤ s), abs-minus (negsuc 0) s, held-size a, abs-range a f)
 
--- `omega sizes` reads that of each result of which a call says what it is, and of each argument
+-- `omega sizes` reads that of each result of which a call says what it is, and of each argument. It takes one rule for each fact, so a law that says more of
+-- a result is listed before the set.
 pub result-size : (r z : ℤ) → r ≡ z → natAbs (toZ w64 (ofZ w64 r)) ≤ natAbs r
 result-size r z e = held-size r
 
