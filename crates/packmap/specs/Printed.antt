@@ -5,9 +5,11 @@ use mathlib.Core.Bool.{Bool, true, false}
 use mathlib.Core.List.{List, [], _∷_, _++_}
 use native.Mathlib.Omega.{arith}
 use lib.Dec.{ltb}
-use lib.ListN.{length, take, drop}
+use lib.ListN.{length, take, drop, replicate, length-replicate}
 use lib.Seq.{length-take-le}
 use lib.IntN.{ℤ, pos}
+use mir.Syntax.{w32}
+use mir.Val.{Fits}
 use borrow.Author.Tests.{ltb-true}
 use Rattle.definitions.specs.Answers.{Answer, done, refused, numbered, lineBroken, Refusal, number}
 use Rattle.definitions.specs.Job.{bytes, writeLine, runJob, lineOf, toldWithText, prints}
@@ -15,8 +17,8 @@ use Rattle.text_model.specs.Numbers.{decimal-short}
 use Rattle.text_model.specs.Reading.{job-long}
 use Rattle.text_model.specs.Writing.{tabbed, Wrote, line-length, tabbed-more}
 use Rattle.job_call.specs.Model.{outcome}
-use Rattle.job_call.specs.Answer.{jobToAnswer}
-use Rattle.job_call.specs.Outcomes.{run-refused, listing-room}
+use Rattle.job_call.specs.Answer.{jobToAnswer, Near}
+use Rattle.job_call.specs.Outcomes.{run-refused, near-line, listing-room}
 use Rattle.job_call.specs.declared.JobAnswer.{JobAnswer}
 use Rattle.job_call.specs.declared.JobAnswer.the-variants.{Listed, Refused, Broken}
 
@@ -44,9 +46,20 @@ module _ (k l : ℕ) (xs : List ℤ) (is : xs ≡ pos k ∷ pos l ∷ []) (hk : 
   pub refusal-room : (out : List ℕ) → 16384 ≤ length out → length (writeLine (bytes "refused") xs) ≤ length out
   refusal-room out room = omega (arith, refusal-short k l hk hl, ap {B = ℕ} length same)
 
-  pub refusal-wrote : (before after : List ℕ) (r : ℕ) → Wrote (writeLine (bytes "refused") xs) before after r → Wrote (refusalLine k l) before after r
-      × (r ≤ 16384)
-  refusal-wrote before after r h = (rw same at h, omega (arith, h .count, refusal-short k l hk hl, ap {B = ℕ} length same))
+  module _ (before after : List ℕ) (r : ℕ) (h : Wrote (writeLine (bytes "refused") xs) before after r) where
+    pub refusal-wrote : Wrote (refusalLine k l) before after r
+    refusal-wrote = rw same at h
+
+    pub refusal-few : r ≤ 16384
+    refusal-few = omega (arith, h .count, refusal-short k l hk hl, ap {B = ℕ} length same)
+
+-- the line of a job fits 32 bits
+pub line-fits : (r : JobAnswer) → Near r → (l : ℕ) → r ≡ Broken l → Fits w32 l
+line-fits r h l e = omega (arith, near-line r h l e)
+
+-- what is printed is lent from the buffer's front
+pub printed-lent : (k : ℕ) (out : List ℕ) → k ≤ 16384 → length out ≡ length (replicate {A = ℕ} 16384 0) → k ≡ length (take k out)
+printed-lent k out h e = sym (length-take-le k out (omega (arith, length-replicate {A = ℕ} 16384 0)))
 
 -- ---- a text, and a buffer with room for every listing
 

@@ -1,15 +1,11 @@
 -- `packmap::answer` meets its contract, by what the job answers. Assumes nothing.
-use native.Mathlib.Omega.{arith}
-use Rattle.job_call.specs.Outcomes.{near-line}
-use Rattle.packmap.specs.Printed.{listed-printed, listed-short, refused-printed, broken-printed}
+use Rattle.packmap.specs.Printed.{line-fits, listed-printed, listed-short, refused-printed, broken-printed}
 use borrow.Author.Needs.{needs}
 use Rattle.packmap.proofs.answer.Statement.{statement}
 use Rattle.packmap.proofs.answer.Tie as tie
 
 cast-put-refusal : tie.Need-cast-put-refusal
-cast-put-refusal c =
-    let after-run : tie.After-run = search in
-    record { fits = omega (arith, near-line _ (after-run .run .ensures .1 .1) _ (c .before .line .given .1)) }
+cast-put-refusal c = search line-fits
 
 returns : tie.Need-returns
 returns c = search (listed-printed, listed-short)

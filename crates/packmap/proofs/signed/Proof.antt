@@ -7,8 +7,7 @@ use Rattle.packmap.proofs.signed.Statement.{statement}
 use Rattle.packmap.proofs.signed.Tie as tie
 
 returns : tie.Need-returns
-returns c =
-    toZ-pos w64 (c .args .x) (omega arith)
+returns c = toZ-pos w64 _ (omega arith)
 
 pub signed-spec : {M : Type 1} → statement M
 signed-spec = tie.close (tie.spec (λ c. search needs) returns)
