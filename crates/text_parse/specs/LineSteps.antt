@@ -27,7 +27,8 @@ module _ {A B : Type 0} {layout inner : List (List ℕ) → Option A} {word : Li
     pub word-other : r ≡ false → answer none ≡ answer (layout (fields s))
     word-other n = ap answer (sym (other-word layout inner word b s (omega arith) (first ∙ n)))
 
-    pub word-then : r ≡ true → (rest : List ℕ) → rest ≡ drop (k + 1) s → (x : B) → x ≡ answer (inner (fields rest)) → x ≡ answer (layout (fields s))
+    pub word-then : r ≡ true → (rest : List ℕ) → rest ≡ drop (k + 1) s → (x : B) → x ≡ answer (inner (fields rest))
+        → x ≡ answer (layout (fields s))
     word-then y rest d x z =
         let l : drop (suc (indexOf TAB s)) s ≡ rest = cc (add-one k) in
         z ∙ ap answer (sym (the-word layout inner word b s (omega arith) (first ∙ y) ∙ ap (λ (o : List ℕ). inner (fields o)) l))
@@ -45,8 +46,8 @@ module _ {layout : List (List ℕ) → Option (List ℕ)} {inner : ℕ → List 
     pub corner-broken : r ≡ NoCorner → none ≡ layout (fields s)
     corner-broken n = sym (take-broken layout inner t s (omega arith) (found none (vertex-broken (vertexField f) r q n)))
 
-    pub corner-then : (a : ℕ) → r ≡ Corner a → (rest : List ℕ) → rest ≡ drop (k + 1) s → (x : Option (List ℕ)) → x ≡ inner a (fields rest) →
-        x ≡ layout (fields s)
+    pub corner-then : (a : ℕ) → r ≡ Corner a → (rest : List ℕ) → rest ≡ drop (k + 1) s → (x : Option (List ℕ))
+        → x ≡ inner a (fields rest) → x ≡ layout (fields s)
     corner-then a y rest d x z =
         let v : vertexField (take (indexOf TAB s) s) ≡ some a = found (some a) (vertex-value (vertexField f) a r q y) in
         let l : drop (suc (indexOf TAB s)) s ≡ rest = cc (add-one k) in

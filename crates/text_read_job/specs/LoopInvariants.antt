@@ -104,7 +104,8 @@ module _ {A B Q : Type 0} {layout : List (List ℕ) → Option B} {told : Q → 
         ∙ steady .broken (count - (i + 1)) (first + i) (drop at text) (first + i) (line none (ap told f ∙ g))))
 
     pub reads-more : (good : Q) (x : B) (now′ : List A) (at′ : ℕ) → take (size (i + 1)) now′ ≡ take (size i) now ++ numbers x → q ≡ good
-        → told good ≡ some x → at′ ≡ nextLine text at → length now′ ≡ length now → Reads size lines text start count first old now′ at′ (i + 1)
+        → told good ≡ some x → at′ ≡ nextLine text at → length now′ ≡ length now
+        → Reads size lines text start count first old now′ at′ (i + 1)
     unfolding lineOf
     reads-more good x now′ at′ n f g p k =
         let b : readLine layout (first + i) (drop at text) ≡ got x (drop at′ text) = line (some x) (ap told f ∙ g)

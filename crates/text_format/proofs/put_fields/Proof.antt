@@ -18,7 +18,8 @@ abbrev μ-loop : tie.MeasureT-loop
 
 -- the next field has room
 room : (c : tie.Start Inv-loop μ-loop) (t : tie.At-loop Inv-loop μ-loop) → t .loop .k < length (c .args .xs .now) →
-    length (tabbed (take (t .loop .k) (c .args .xs .now))) + suc (length (decimal (getD (c .args .xs .now) (t .loop .k) (pos 0)))) ≤ length (c .args .out .now)
+    length (tabbed (take (t .loop .k) (c .args .xs .now))) + suc (length (decimal (getD (c .args .xs .now) (t .loop .k) (pos 0))))
+    ≤ length (c .args .out .now)
 room c t h = omega (arith, field-room (c .args .xs .now) (t .loop .k) h)
 
 loop-holds : tie.Need-loop-holds Inv-loop μ-loop
