@@ -17,7 +17,7 @@ use Rattle.text_model.specs.Writing.{Puts, Wrote, fill-back}
 
 -- ---- how many digits n has
 
--- c digits are counted, the last of them being the first digit of the m that is left
+-- m is left of n, and c is one more than the digits that were taken off
 pub record Counted (n m c : ℕ) : Type 0 where
   pub all : c + length (numeral m) ≡ length (numeral n) + 1
   pub short : length (numeral n) ≤ 20
