@@ -18,7 +18,7 @@ use Rattle.definitions.specs.Answers.{Answer, done, refused, numbered, stoppedA
 use Rattle.definitions.specs.Refusals.{Repaired, repairCall, row9}
 use Rattle.definitions.specs.Job.{Job, readJob, repairJob, runJob, hostCall, listing, toldWithText, refusalNumber}
 use Rattle.laws.specs.Sums.{total-abs}
-use Rattle.theory_repair.specs.Demand as Mending
+use Rattle.theory_repair.specs.Demand as RepairDemand
 use Rattle.theory_demand.specs.Demand.{maps}
 use Rattle.text_model.specs.Sizes.{job-fits}
 use Rattle.text_model.specs.Writing.{listing-fits}
@@ -186,12 +186,12 @@ module _ (n : ℕ) (ts : List ℕ) (ws : List ℤ) where
 
   module _ (raises : ℕ) (e : end .answer ≡ done raises) where
     done-few : raises ≤ 2 * n - 5
-    done-few = Mending.count-few n ts (maps n ts) ws (replicate (coordinatesLength n) (pos 0)) (replicate (scratchLength n) (pos 0)) raises (inl e)
+    done-few = RepairDemand.count-few n ts (maps n ts) ws (replicate (coordinatesLength n) (pos 0)) (replicate (scratchLength n) (pos 0)) raises (inl e)
 
     -- N is b0 of v0
     done-total : coordinate (end .coordinates) 0 (org ts 0) ≡ total (end .weights)
     unfolding outer
-    done-total = Mending.count-total n ts (maps n ts) ws (replicate (coordinatesLength n) (pos 0)) (replicate (scratchLength n) (pos 0)) raises (inl e)
+    done-total = RepairDemand.count-total n ts (maps n ts) ws (replicate (coordinatesLength n) (pos 0)) (replicate (scratchLength n) (pos 0)) raises (inl e)
 
     ran-total : ran n ts ws ≡ done (listing n (total (end .weights)) raises (end .coordinates))
     unfolding repairJob
@@ -260,9 +260,9 @@ listing-room text bytes e = go (readJob text) refl
         let same : bytes ≡ listing n (total (E .weights)) raises (E .coordinates) = cc in
         rw same
         (listing-fits n (total (E .weights)) raises (E .coordinates) (sized .1)
-        (row9-total (E .weights) (Mending.count-weights n ts (maps n ts) ws bs scratch raises (inl q) .1))
+        (row9-total (E .weights) (RepairDemand.count-weights n ts (maps n ts) ws bs scratch raises (inl q) .1))
         (omega (arith, done-few n ts ws raises q, sized))
-        (Mending.count-limits n ts (maps n ts) ws bs scratch raises (inl q)))
+        (RepairDemand.count-limits n ts (maps n ts) ws bs scratch raises (inl q)))
 
     go : (a : Answer Job) → readJob text ≡ a → length bytes ≤ 16384
     go (refused why) p = let z : _≡_ {A = ℕ} 0 1 = cc (sym e ∙ run-refused text why p) in absurd (omega arith)

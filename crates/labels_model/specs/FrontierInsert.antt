@@ -231,9 +231,6 @@ module _ (n : ℕ) (ts : List ℕ) (s : Sphere n (length ts / 3) (org ts) (opp t
     abbrev ds : List ℕ
     ds = rotations ts (length (outgoing ts u)) d₁
 
-    un : u < n
-    un = s .vertex d h
-
     lit : Lit ts n F t
     lit =
         record {

@@ -90,7 +90,8 @@ countNeighbour w c t = cond (ltb 0 (frontierDegree t w)) (record { count = c + 1
 -- the labels of the triangle of the leaving vertex's dart g: 2 at its corner, 0 at the next, 1 at the previous
 unfoldable pub setLabels : ℕ → Tables → Tables
 setLabels g t =
-    setOp g (dartWord (oppositeIn (t .op) g) 2) (setOp (prev g) (dartWord (oppositeIn (t .op) (prev g)) 1) (setOp (next g) (dartWord (oppositeIn (t .op) (next g)) 0) t))
+    setOp g (dartWord (oppositeIn (t .op) g) 2)
+    (setOp (prev g) (dartWord (oppositeIn (t .op) (prev g)) 1) (setOp (next g) (dartWord (oppositeIn (t .op) (next g)) 0) t))
 
 -- v leaves as the i-th, from between `left` and `right`
 unfoldable pub leaveFrontier : ℕ → ℕ → ℕ → ℕ → Tables → Tables

@@ -11,7 +11,7 @@ use native.Mathlib.Omega.{arith}
 use native.Mathlib.Decide.{decLe, ℕ-discrete}
 use lib.Dec.{eqb}
 use lib.ListN.{length, getD, set, length-append, List·getD-append}
-use lib.Seq.{getD-append-add, getD-append-seam}
+use lib.Seq.{getD-append-add}
 use lib.IntN.{ℤ, natAbs, _+ℤ_, +ℤ-assoc, +ℤ-idl}
 use borrow.Author.Tests.{eqb-true, eq-eqb}
 use Rattle.definitions.specs.Lists.{range, upto, all, any, filter, iterate, elem, firstOr, first, minimum, init, total, totalAbs}
@@ -41,10 +41,6 @@ unfalse false h = absurd (h refl)
 pub and-both : (a b : Bool) → (a && b) ≡ true → (a ≡ true) × (b ≡ true)
 and-both true b e = (refl, e)
 and-both false b e = clash e refl
-
-pub and-either : (a b : Bool) → (a && b) ≡ false → (a ≡ false) ⊎ (b ≡ false)
-and-either true b e = inr e
-and-either false b e = inl refl
 
 pub or-either : (a b : Bool) → (a || b) ≡ true → (a ≡ true) ⊎ (b ≡ true)
 or-either true b e = inl refl
@@ -123,9 +119,6 @@ module _ {A : Type 0} (p : A → Bool) where
         | inr q ↦ (x, List·Memᴰ·head refl, q)
         | inl q ↦ let r = all-false xs (rw q at e) in (r .0, List·Memᴰ·tail (r .1), r .2)
       ]
-
-  pub false-all : {x : A} {xs : List A} → x ∈ xs → p x ≡ false → all p xs ≡ false
-  false-all {x} {xs} m e = untrue (all p xs) (λ q. clash (all-true xs q m) e)
 
   -- the members of `filter` are those that pass
   pub filter-in : {x : A} (xs : List A) → x ∈ filter p xs → (x ∈ xs) × (p x ≡ true)
@@ -269,13 +262,6 @@ pub getD-upto : (n i d : ℕ) → i < n → getD (upto n) i d ≡ i
 unfolding upto
 getD-upto n i d h = getD-range 0 n i d h ∙ omega arith
 
-pub upto-suc : (n : ℕ) → upto (suc n) ≡ upto n ++ (n ∷ [])
-unfolding upto range
-upto-suc n =
-    let e : suc n ≡ n + 1 = omega arith in
-    let e′ : 0 + n ≡ n = omega arith in
-    ap (range 0) e ∙ range-append 0 n 1 ∙ ap (λ (z : ℕ). range 0 n ++ (z ∷ [])) e′
-
 -- a test of all numbers below n, and of some number below n
 pub upto-none : (p : ℕ → Bool) (n : ℕ) → any p (upto n) ≡ false → (x : ℕ) → x < n → p x ≡ false
 upto-none p n e x h = any-false p (upto n) e (in-upto n x h)
@@ -362,9 +348,6 @@ module _ (p : ℕ → Bool) where
   first-is [] x rs e q = rw q
   first-is (y ∷ ls) x rs e q = let r = or-neither (p y) (any p ls) e in rw (r .0) (first-is ls x rs (r .1) q)
 
-  pub some-first : (xs : List ℕ) (x : ℕ) → First p xs x → first p xs ≡ some x
-  some-first xs x f = rw (f .split) (first-is (f .ahead) x (f .behind) (f .before) (f .passes))
-
   pub none-first : (xs : List ℕ) → any p xs ≡ false → first p xs ≡ none
   unfolding first any
   none-first [] e = refl
@@ -407,19 +390,6 @@ firstOr-same p q d (x ∷ xs) h =
     let rest : firstOr p d xs ≡ firstOr q d xs = firstOr-same p q d xs (λ y m. h y (List·Memᴰ·tail m)) in
     rw (e, rest)
 
--- of numbers in order, the first that passes is the least
-pub First-range : (p : ℕ → Bool) (from k x : ℕ) → First p (range from k) x → (y : ℕ) → from ≤ y → y < x → p y ≡ false
-First-range p from k x f y h l =
-    let n : length (range from k) ≡ length (f .ahead) + suc (length (f .behind)) = ap length (f .split) ∙ length-append (f .ahead) (x ∷ f .behind) in
-    let at : from + length (f .ahead) ≡ x =
-    sym (getD-range from k (length (f .ahead)) 0 (omega (arith, length-range from k)))
-    ∙ ap (λ (zs : List ℕ). getD zs (length (f .ahead)) 0) (f .split) ∙ getD-append-seam (f .ahead) x (f .behind) 0 in
-    let i : y - from < length (f .ahead) = omega arith in
-    let is : getD (f .ahead) (y - from) 0 ≡ y =
-    sym (List·getD-append (f .ahead) (x ∷ f .behind) 0 (y - from) i) ∙ ap (λ (zs : List ℕ). getD zs (y - from) 0) (sym (f .split))
-    ∙ getD-range from k (y - from) 0 (omega (arith, length-range from k)) ∙ omega arith in
-    any-false p (f .ahead) (f .before) (Memᴰ·cast (sym is) (getD-in (f .ahead) (y - from) 0 i))
-
 -- ---- least
 
 differ : {X : Type 0} {x : ℕ} → some x ≡ none → X
@@ -458,13 +428,6 @@ minimum-some (a ∷ xs) x e = go (minimum-some xs) (minimum xs) refl
           | yes h ↦ let j : x ≡ a = omega arith in (List·Memᴰ·head j, below z (omega arith) (omega arith) (r .1))
           | no h ↦ let j : x ≡ z = omega arith in (List·Memᴰ·tail (Memᴰ·cast j (r .0)), below z (omega arith) (omega arith) (r .1))
         ]
-
-pub some-minimum : (xs : List ℕ) (x : ℕ) → x ∈ xs → ((y : ℕ) → y ∈ xs → x ≤ y) → minimum xs ≡ some x
-some-minimum xs x m h = go (minimum xs) refl
-  where
-    go : (o : Option ℕ) → minimum xs ≡ o → minimum xs ≡ some x
-    go none q = absurd (List·Memᴰ·not-nil (rw (minimum-none xs q) at m))
-    go (some z) q = let r = minimum-some xs z q in let i : z ≡ x = omega (arith, r .1 x m, h z (r .0)) in rw i at q
 
 -- ---- front
 

@@ -1,20 +1,14 @@
 -- Lists that tabulate a function along a run of numbers, as loops fill and read them. Assumes nothing.
 use Prim.Native.Nat.{ℕ, _+_, _≤_, _<_}
 use mathlib.Core.Path.{_≡_, sym, _∙_}
-use mathlib.Core.Logic.{_⊎_, inl, inr, ⊎-elim}
-use mathlib.Core.Bool.{Bool}
 use mathlib.Core.List.{List, map}
 use native.Mathlib.Omega.{arith}
 use native.Mathlib.Decide.{ℕ-discrete}
 use lib.ListN.{length, getD, set, length-map, length-set}
 use lib.Seq.{ext-getD, getD-set-same, getD-set-other}
-use Rattle.definitions.specs.Lists.{range, any, firstOr}
-use Rattle.laws.specs.Lists.{_∈_, tested, length-range, firstOr-in, firstOr-none}
+use Rattle.definitions.specs.Lists.{range}
+use Rattle.laws.specs.Lists.{length-range}
 use Rattle.laws.specs.Multiples.{getD-map-range}
-
--- what is found is one of those that were looked at, or the number for none
-pub firstOr-either : (p : ℕ → Bool) (d : ℕ) (xs : List ℕ) → (firstOr p d xs ≡ d) ⊎ (firstOr p d xs ∈ xs)
-firstOr-either p d xs = ⊎-elim (λ e. inr (firstOr-in p d xs e .0)) (λ e. inl (firstOr-none p d xs e)) (tested (any p xs))
 
 module _ {A : Type 0} where
   pub length-table : (f : ℕ → A) (from k : ℕ) → length (map f (range from k)) ≡ k

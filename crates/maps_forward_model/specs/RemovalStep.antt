@@ -123,7 +123,9 @@ module _ {n : ℕ} (ts ls : List ℕ) (sph : Sphere n (length ts / 3) (org ts) (
       ∙ copy-off bs (wordIndex 0 v) (wordIndex 1 (org ts e′)) 0 i (omega (arith, h))
 
   keptAndStored-0v : coordinate (keptAndStored ts t ws v bs) 0 v ≡ coordinate bs 1 (org ts e′)
-  keptAndStored-0v = ap (λ (l : List ℤ). coordinate l 0 v) keptAndStored-is ∙ stores-0 ts ws gs kept v ∙ copy-at bs 0 v 1 (org ts e′) (room 0 v (omega arith) v-in)
+  keptAndStored-0v =
+      ap (λ (l : List ℤ). coordinate l 0 v) keptAndStored-is ∙ stores-0 ts ws gs kept v
+      ∙ copy-at bs 0 v 1 (org ts e′) (room 0 v (omega arith) v-in)
 
   keptAndStored-off : (i : ℕ) → ((g : ℕ) → g ∈ gs → org ts (prev g) ≢ i) → coordinate (keptAndStored ts t ws v bs) 1 i ≡ coordinate bs 1 i
   keptAndStored-off i h = ap (λ (l : List ℤ). coordinate l 1 i) keptAndStored-is ∙ stores-off ts ws gs kept i h
@@ -138,8 +140,9 @@ module _ {n : ℕ} (ts ls : List ℕ) (sph : Sphere n (length ts / 3) (org ts) (
   -- ---- after the sum on the left is handed on
 
   withLeftSum-0 : (i : ℕ) → coordinate (withLeftSum ts t ws v bs) 0 i ≡ coordinate (keptAndStored ts t ws v bs) 0 i
-  withLeftSum-0 i = ap (λ (l : List ℤ). coordinate l 0 i) withLeftSum-is ∙ add-off (keptAndStored ts t ws v bs) (wordIndex 1 (org ts (prev e))) (wordIndex 1 v) 0 i
-      (omega arith)
+  withLeftSum-0 i =
+      ap (λ (l : List ℤ). coordinate l 0 i) withLeftSum-is
+      ∙ add-off (keptAndStored ts t ws v bs) (wordIndex 1 (org ts (prev e))) (wordIndex 1 v) 0 i (omega arith)
 
   withLeftSum-1 : (i : ℕ) → coordinate (withLeftSum ts t ws v bs) 1 i
       ≡ coordinate (keptAndStored ts t ws v bs) 1 i +ℤ cond (eqb i (org ts (prev e))) (coordinate bs 1 v) (pos 0)

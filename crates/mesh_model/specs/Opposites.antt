@@ -9,7 +9,7 @@ use native.Mathlib.Omega.{arith}
 use native.Mathlib.Decide.{ℕ-discrete, decLt}
 use lib.Dec.{ltb}
 use lib.ListN.{length}
-use borrow.Author.Tests.{lt-ltb, ltb-true}
+use borrow.Author.Tests.{lt-ltb}
 use Rattle.definitions.specs.Lists.{any}
 use Rattle.definitions.specs.Mesh.{next, prev, org, tip, opposite, opp, darts, outgoing, row5, row6}
 use Rattle.laws.specs.Lists.{_∈_, tested, clash, untrue, and-both, true-any, false-any}
@@ -39,10 +39,6 @@ module _ (ts : List ℕ) where
   -- it is a dart of v, as d is: so it is the opposite of the dart before d
   unfoldable pub meets : ℕ → (ℕ → ℕ) → ℕ → Bool
   meets v mark d = ltb (prev d) (length ts) && isOf v (mark (2 * org ts (prev d)))
-
-  pub meets-below : (v : ℕ) (mark : ℕ → ℕ) (d : ℕ) → meets v mark d ≡ true → prev d < length ts
-  unfolding meets
-  meets-below v mark d e = ltb-true (prev d) (length ts) (and-both (ltb (prev d) (length ts)) (isOf v (mark (2 * org ts (prev d)))) e .0)
 
   -- k darts of v from d on, by their links
   unfoldable pub join : ℕ → (ℕ → ℕ) → ℕ → ℕ → (ℕ → ℕ) → Join

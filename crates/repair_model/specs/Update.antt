@@ -1,5 +1,5 @@
--- What a walk moves by the words of repair: each vertex as often as the weight of the walk's first triangle is part of its coordinate, 1 by the preorder of colour
--- 0 and 0 by that of colour 1. Assumes nothing.
+-- What a walk moves by the words of repair: each vertex as often as the weight of the walk's first triangle is part of its coordinate, 1 by the preorder of
+-- colour 0 and 0 by that of colour 1. Assumes nothing.
 use Prim.Native.Nat.{ℕ, zero, suc, _+_, _-_, _*_, _/_, _≤_, _<_}
 use mathlib.Core.Path.{_≡_, refl, sym, ap, _∙_, subst}
 use mathlib.Core.Logic.{_≢_}

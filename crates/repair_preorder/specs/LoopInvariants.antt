@@ -155,9 +155,6 @@ module _ (f : ℕ → Tables → Tables) (m : ℕ) (s₀ s : List ℤ) (k : ℕ)
   pub down-pass-pre : (n : ℕ) → PassPre n (length s₀) (tablesOf s₀) → PassPre n (length s) (tablesOf s)
   down-pass-pre n P = pass-pre-odd (D .odd) (D .long) P
 
-pub down-begins : (f : ℕ → Tables → Tables) (m : ℕ) (s₀ : List ℤ) → Down f m s₀ s₀ m
-down-begins f m s₀ = record { long = refl; low = omega arith; odd = odd-none (tablesOf s₀); rest = refl }
-
 pub parent-low : {n words : ℕ} {S : Tables} (colour k : ℕ) → PassPre n words S → k < n - 2 → parent colour (S .mark (2 * k + 1)) < n
 unfolding parent
 parent-low colour k P h = elim (tested (eqb colour 0)) [ inl e ↦ rw e (P .left k h) | inr e ↦ rw e (P .right k h) ]

@@ -127,18 +127,6 @@ pub record TrianglesPacked (n : ℕ) (ts : List ℕ) (T S : Tables) (m : ℕ) : 
   pub count : S .count ≡ T .count
   pub mark : S .mark ≡ T .mark
 
-pub walks-none : (n : ℕ) (ts : List ℕ) (T : Tables) → TrianglesPacked n ts T T 1
-walks-none n ts T =
-    record {
-      walks = λ t p q. absurd (omega arith);
-      corners = λ t p q. absurd (omega arith);
-      otherWalks = λ t p q. absurd (omega arith);
-      rest = λ d h. refl;
-      head = refl;
-      count = refl;
-      mark = refl;
-    }
-
 -- the corner is one of its triangle
 apex-tri : (w : ℕ → ℕ) (t : ℕ) → tri (apexDart w t) ≡ t
 unfolding apexDart tri
@@ -224,9 +212,6 @@ pub record RemovedPacked (n : ℕ) (ts : List ℕ) (T S : Tables) (m : ℕ) : Ty
   pub op : S .op ≡ T .op
   pub head : S .head ≡ T .head
   pub count : S .count ≡ T .count
-
-pub removed-none : (n : ℕ) (ts : List ℕ) (T : Tables) → RemovedPacked n ts T T 0
-removed-none n ts T = record { removed = λ k h. absurd (omega arith); rest = λ k h. refl; even = λ v. refl; op = refl; head = refl; count = refl }
 
 same-removed : (ts : List ℕ) (T S : Tables) (k : ℕ) → S .mark (2 * k + 1) ≡ T .mark (2 * k + 1) → S .head ≡ T .head → S .count ≡ T .count →
     removedWord ts S k ≡ removedWord ts T k

@@ -250,10 +250,6 @@ module _ (s : List ℤ) where
   unfolding tablesOf
   tablesOf-mark t x h = rw (length-set s (markAt (length s / 10) t) (pos x)) (columns-mark s (length s / 10) (omega arith) t x h)
 
--- the word of an entry that there is
-pub dart-index : (words d : ℕ) → dartIn words d → d < words
-dart-index words d h = omega arith
-
 pub mark-index : (words t : ℕ) → markIn words t → markAt (column words) t < words
 mark-index words t h = omega (arith, mark-range (words / 10) t h)
 

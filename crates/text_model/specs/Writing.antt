@@ -74,11 +74,6 @@ wrote-then v w before mid ys a b p q =
       puts = puts-then v w before mid ys a (p .puts) (p .count) (q .puts);
     }
 
--- the same, where what was written second goes by another name
-pub wrote-also : (v w w′ before mid ys : List ℕ) (a b : ℕ) → Wrote v before mid a → Wrote w′ (restOf a mid) ys b → w′ ≡ w →
-    Wrote (v ++ w) before (putRest a mid ys) (a + b)
-wrote-also v w w′ before mid ys a b p q e = rw (← e) (wrote-then v w′ before mid ys a b p q)
-
 -- after w, the buffer has its length, and so much room less
 pub wrote-length : (w before after : List ℕ) (r : ℕ) → Wrote w before after r → length w ≤ length before → length after ≡ length before
 wrote-length w before after r p h =
@@ -88,10 +83,6 @@ wrote-length w before after r p h =
 pub rest-room : (v w before mid : List ℕ) (a : ℕ) → Wrote v before mid a → length mid ≡ length before → length (v ++ w) ≤ length before
     → length w ≤ length (restOf a mid)
 rest-room v w before mid a p e h = rw (rest-is a mid) (omega (arith, length-drop a mid, length-append v w, p .count))
-
-pub rest-start : (v w before mid : List ℕ) (a : ℕ) → Wrote v before mid a → length mid ≡ length before → length (v ++ w) ≤ length before →
-    a ≤ length mid
-rest-start v w before mid a p e h = omega (arith, length-append v w, p .count)
 
 pub wrote-none : (before : List ℕ) → Wrote [] before before 0
 wrote-none before = record { count = refl; puts = puts-none before }

@@ -11,7 +11,7 @@ get-mark-requires : tie.Need-get-mark-requires
 get-mark-requires c κs = search needs
 
 returns : tie.Need-returns
-returns c = (low-is _ (c .before .args .b) (c .get-mark .result) (c .get-mark .ensures .0), low-small (c .get-mark .result))
+returns c = search (low-is, low-small)
 
 pub block-bound-spec : {M : Type 1} → statement M
 block-bound-spec = tie.close (tie.spec mul-get-mark get-mark-requires returns)

@@ -4,10 +4,10 @@ use Rattle.labels_peel.proofs.block_in_group.Statement.{statement}
 use Rattle.labels_peel.proofs.block_in_group.Tie as tie
 
 returns : tie.Need-returns
-returns c = seat-in (c .before .args .n) (c .before .args .v) (c .if1 .taken)
+returns c = search seat-in
 
 returns-2 : tie.Need-returns-2
-returns-2 c = seat-past (c .before .args .n) (c .before .args .v) (c .if1 .left)
+returns-2 c = search seat-past
 
 pub block-in-group-spec : {M : Type 1} → statement M
 block-in-group-spec = tie.close (tie.spec returns returns-2)

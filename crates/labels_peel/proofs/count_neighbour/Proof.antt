@@ -6,7 +6,7 @@ use Rattle.labels_peel.proofs.count_neighbour.Statement.{statement}
 use Rattle.labels_peel.proofs.count_neighbour.Tie as tie
 
 frontier-degree-requires : tie.Need-frontier-degree-requires
-frontier-degree-requires c κs = omega (arith, c .before .pre .0 .small)
+frontier-degree-requires c κs = omega arith
 
 increment-degree-requires : tie.Need-increment-degree-requires
 increment-degree-requires c κs =
@@ -14,34 +14,19 @@ increment-degree-requires c κs =
     start .pre .0
 
 add-result : tie.Need-add-result
-add-result c =
-    let start : tie.Start = search in
-    omega (arith, start .pre .1)
+add-result c = omega arith
 
 same-length : tie.Need-same-length
 same-length c = search needs
 
 returns : tie.Need-returns
-returns c =
-    let start : tie.Start = search in
-    let after-frontier-degree : tie.After-frontier-degree = search in
-    let then1 : tie.Then1 = search in (
-      meet-on (start .args .w) (start .args .c)
-          (after-frontier-degree .frontier-degree .result) _ _ (after-frontier-degree .frontier-degree .ensures .0)
-          (then1 .if1 .taken) (c .before .increment-degree .ensures),
-      omega arith,
-    )
+returns c = search (meet-on, needs)
 
 same-length-2 : tie.Need-same-length-2
 same-length-2 c = search needs
 
 returns-2 : tie.Need-returns-2
-returns-2 c =
-    let start : tie.Start = search in (
-      meet-off (start .args .w) (start .args .c) (c .before .frontier-degree .result) _
-          (c .before .frontier-degree .ensures .0) (c .if1 .left),
-      omega arith,
-    )
+returns-2 c = search (meet-off, needs)
 
 pub count-neighbour-spec : {M : Type 1} → statement M
 count-neighbour-spec =

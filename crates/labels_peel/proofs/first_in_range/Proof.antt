@@ -18,17 +18,14 @@ loop-holds : tie.Need-loop-holds Inv-loop μ-loop
 loop-holds c = refl
 
 is-removable-requires : tie.Need-is-removable-requires Inv-loop μ-loop
-is-removable-requires c κs =
-    let start : tie.Start Inv-loop μ-loop = search in
-    omega (arith, c .loop-test .taken, start .pre)
+is-removable-requires c κs = omega arith
 
 returns : tie.Need-returns Inv-loop μ-loop
-returns c =
-    let start : tie.Start Inv-loop μ-loop = search in
+returns c = let start : tie.Start Inv-loop μ-loop = search in
     let at-loop : tie.At-loop Inv-loop μ-loop = search in
     let in-loop : tie.In-loop Inv-loop μ-loop = search in
     scan-over _ _ (start .args .end) (at-loop .loop .v) _ (in-loop .loop-test .taken)
-    (sym (c .if1 .taken) ∙ c .before .is-removable .ensures) (at-loop .loop .inv)
+    (sym (search) ∙ c .before .is-removable .ensures) (at-loop .loop .inv)
 
 add-v : tie.Need-add-v Inv-loop μ-loop
 add-v c = omega arith
@@ -37,17 +34,14 @@ loop-less : tie.Need-loop-less Inv-loop μ-loop
 loop-less c = omega arith
 
 loop-again : tie.Need-loop-again Inv-loop μ-loop
-loop-again c =
-    let start : tie.Start Inv-loop μ-loop = search in
+loop-again c = let start : tie.Start Inv-loop μ-loop = search in
     let at-loop : tie.At-loop Inv-loop μ-loop = search in
     let in-loop : tie.In-loop Inv-loop μ-loop = search in
     scan-more _ _ (start .args .end) (at-loop .loop .v) _
-    (in-loop .loop-test .taken) (sym (c .if1 .left) ∙ c .before .is-removable .ensures) (at-loop .loop .inv)
+    (in-loop .loop-test .taken) (sym (search) ∙ c .before .is-removable .ensures) (at-loop .loop .inv)
 
 returns-2 : tie.Need-returns-2 Inv-loop μ-loop
-returns-2 c =
-    let start : tie.Start Inv-loop μ-loop = search in
-    scan-none _ _ (start .args .end) (c .before .loop .v) _ (c .loop-test .left) (c .before .loop .inv)
+returns-2 c = search scan-none
 
 pub first-in-range-spec : {M : Type 1} → statement M
 first-in-range-spec =

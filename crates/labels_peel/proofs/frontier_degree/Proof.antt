@@ -11,7 +11,7 @@ get-mark-requires : tie.Need-get-mark-requires
 get-mark-requires c κs = search needs
 
 returns : tie.Need-returns
-returns c = (near-is _ (c .before .args .w) (c .get-mark .result) (c .get-mark .ensures .0), small-past (c .get-mark .result))
+returns c = search (near-is, small-past)
 
 pub frontier-degree-spec : {M : Type 1} → statement M
 frontier-degree-spec = tie.close (tie.spec mul-get-mark get-mark-requires returns)

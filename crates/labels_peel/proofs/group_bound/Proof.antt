@@ -11,7 +11,7 @@ get-mark-requires : tie.Need-get-mark-requires
 get-mark-requires c κs = search needs
 
 returns : tie.Need-returns
-returns c = top-is _ (c .before .args .g) (c .get-mark .result) (c .get-mark .ensures .0)
+returns c = search top-is
 
 pub group-bound-spec : {M : Type 1} → statement M
 group-bound-spec = tie.close (tie.spec mul-get-mark get-mark-requires returns)

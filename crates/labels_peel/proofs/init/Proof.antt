@@ -1,6 +1,5 @@
 -- `labels_peel::init` meets its contract. Assumes nothing.
 use native.Mathlib.Omega.{arith}
-use mathlib.Core.Path.{_∙_}
 use Rattle.labels_peel.specs.LoopLaws.{room-kept, begin-is}
 use borrow.Author.Needs.{needs}
 use Rattle.labels_peel.proofs.init.Statement.{statement}
@@ -10,18 +9,10 @@ clear-degrees-requires : tie.Need-clear-degrees-requires
 clear-degrees-requires c κs = search needs
 
 init-degrees-requires : tie.Need-init-degrees-requires
-init-degrees-requires c κs =
-    let start : tie.Start = search in
-    let after-clear-degrees : tie.After-clear-degrees = search in
-    room-kept (after-clear-degrees .clear-degrees .kept .1 .0) (start .pre .0)
+init-degrees-requires c κs = search room-kept
 
 init-frontier-requires : tie.Need-init-frontier-requires
-init-frontier-requires c κs =
-    let start : tie.Start = search in
-    let after-clear-degrees : tie.After-clear-degrees = search in
-    let after-init-degrees : tie.After-init-degrees = search in
-    room-kept (after-init-degrees .init-degrees .kept .1 .0 ∙ after-clear-degrees .clear-degrees .kept .1 .0)
-    (start .pre .0)
+init-frontier-requires c κs = search room-kept
 
 init-labels-requires : tie.Need-init-labels-requires
 init-labels-requires c κs =
@@ -41,15 +32,7 @@ same-length : tie.Need-same-length
 same-length c = search needs
 
 returns : tie.Need-returns
-returns c =
-    let start : tie.Start = search in
-    let after-clear-degrees : tie.After-clear-degrees = search in
-    let after-init-degrees : tie.After-init-degrees = search in
-    let after-init-frontier : tie.After-init-frontier = search in
-    begin-is _ (start .args .n) _ _ _ _ _
-    (after-clear-degrees .clear-degrees .ensures)
-    (after-init-degrees .init-degrees .ensures) (after-init-frontier .init-frontier .ensures)
-    (c .before .init-labels .ensures)
+returns c = search begin-is
 
 pub init-spec : {M : Type 1} → statement M
 init-spec =

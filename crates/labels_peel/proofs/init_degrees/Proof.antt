@@ -19,27 +19,13 @@ mul-set-mark : tie.Need-mul-set-mark
 mul-set-mark c = search needs
 
 set-mark-requires : tie.Need-set-mark-requires
-set-mark-requires c κs =
-    let start : tie.Start = search in
-    let after-origin : tie.After-origin = search in (
-      mark-room (org-holds 0 (after-origin .origin .result) (start .pre)
-          (after-origin .origin .ensures .0)),
-      omega arith,
-    )
+set-mark-requires c κs = search (org-holds, mark-room, needs)
 
 mul-set-mark-2 : tie.Need-mul-set-mark-2
 mul-set-mark-2 c = search needs
 
 set-mark-requires-2 : tie.Need-set-mark-requires-2
-set-mark-requires-2 c κs =
-    let start : tie.Start = search in
-    let after-origin2 : tie.After-origin2 = search in
-    let after-set-mark : tie.After-set-mark = search in (
-      mark-room (holds-kept (after-set-mark .set-mark .kept .0)
-          (org-holds 1 (after-origin2 .origin2 .result) (start .pre)
-          (after-origin2 .origin2 .ensures .0))),
-      omega arith,
-    )
+set-mark-requires-2 c κs = search (holds-kept, org-holds, mark-room, needs)
 
 mul-set-mark-3 : tie.Need-mul-set-mark-3
 mul-set-mark-3 c = search needs
@@ -61,20 +47,7 @@ same-length : tie.Need-same-length
 same-length c = search needs
 
 returns : tie.Need-returns
-returns c =
-    let after-origin : tie.After-origin = search in
-    let after-origin2 : tie.After-origin2 = search in
-    let after-origin3 : tie.After-origin3 = search in
-    let after-set-mark : tie.After-set-mark = search in
-    let after-set-mark2 : tie.After-set-mark2 = search in
-    marks-is _ (after-origin .origin .result)
-    (after-origin2 .origin2 .result)
-    (after-origin3 .origin3 .result) _ _ _ _
-    (after-origin .origin .ensures .0)
-    (after-origin2 .origin2 .ensures .0)
-    (after-origin3 .origin3 .ensures .0)
-    (after-set-mark .set-mark .ensures) (after-set-mark2 .set-mark2 .ensures)
-    (c .before .set-mark3 .ensures)
+returns c = search marks-is
 
 pub init-degrees-spec : {M : Type 1} → statement M
 init-degrees-spec =

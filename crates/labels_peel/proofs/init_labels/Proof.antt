@@ -1,6 +1,6 @@
 -- `labels_peel::init_labels` meets its contract. Assumes nothing.
 use native.Mathlib.Omega.{arith}
-use Rattle.labels_peel.specs.LoopLaws.{outer-room, labels-is}
+use Rattle.labels_peel.specs.LoopLaws.{labels-is}
 use borrow.Author.Needs.{needs}
 use Rattle.labels_peel.proofs.init_labels.Statement.{statement}
 use Rattle.labels_peel.proofs.init_labels.Tie as tie
@@ -24,61 +24,19 @@ dart-word-requires-3 : tie.Need-dart-word-requires-3
 dart-word-requires-3 c κs = search needs
 
 set-op-requires : tie.Need-set-op-requires
-set-op-requires c κs =
-    let start : tie.Start = search in
-    let after-dart-word : tie.After-dart-word = search in (
-      outer-room _ 0 (start .pre) (omega arith),
-      after-dart-word .dart-word .ensures .1,
-    )
+set-op-requires c κs = omega arith
 
 set-op-requires-2 : tie.Need-set-op-requires-2
-set-op-requires-2 c κs =
-    let start : tie.Start = search in
-    let after-dart-word2 : tie.After-dart-word2 = search in
-    let after-set-op : tie.After-set-op = search in (
-      outer-room _ 1 (omega (
-        arith,
-        after-set-op .set-op .kept .0,
-        start .pre,
-      )) (omega arith),
-      after-dart-word2 .dart-word2 .ensures .1,
-    )
+set-op-requires-2 c κs = omega arith
 
 set-op-requires-3 : tie.Need-set-op-requires-3
-set-op-requires-3 c κs =
-    let start : tie.Start = search in
-    let after-dart-word3 : tie.After-dart-word3 = search in
-    let after-set-op : tie.After-set-op = search in
-    let after-set-op2 : tie.After-set-op2 = search in (
-      outer-room _ 2 (omega (
-        arith,
-        after-set-op2 .set-op2 .kept .0,
-        after-set-op .set-op .kept .0,
-        start .pre,
-      )) (omega arith),
-      after-dart-word3 .dart-word3 .ensures .1,
-    )
+set-op-requires-3 c κs = omega arith
 
 same-length : tie.Need-same-length
 same-length c = search needs
 
 returns : tie.Need-returns
-returns c =
-    labels-is
-    (c .before .before .before .before .before .before .before .before .before .before .before .before .before .before .before .before .opposite .result)
-    (c .before .before .before .before .before .before .before .before .before .before .before .before .before .before .before .dart-word .result)
-    (c .before .before .before .before .before .before .before .before .before .before .before .before .before .opposite2 .result)
-    (c .before .before .before .before .before .before .before .before .before .before .before .before .dart-word2 .result)
-    (c .before .before .before .before .before .before .before .before .before .before .opposite3 .result)
-    (c .before .before .before .before .before .before .before .before .before .dart-word3 .result) _ _ _ _
-    (c .before .before .before .before .before .before .before .before .before .before .before .before .before .before .before .before .opposite .ensures .0)
-    (c .before .before .before .before .before .before .before .before .before .before .before .before .before .before .before .dart-word .ensures .0)
-    (c .before .before .before .before .before .before .before .before .before .before .before .before .before .opposite2 .ensures .0)
-    (c .before .before .before .before .before .before .before .before .before .before .before .before .dart-word2 .ensures .0)
-    (c .before .before .before .before .before .before .before .before .before .before .opposite3 .ensures .0)
-    (c .before .before .before .before .before .before .before .before .before .dart-word3 .ensures .0)
-    (c .before .before .before .before .before .before .before .set-op .ensures) (c .before .before .before .before .set-op2 .ensures)
-    (c .before .set-op3 .ensures)
+returns c = search labels-is
 
 pub init-labels-spec : {M : Type 1} → statement M
 init-labels-spec =

@@ -1,6 +1,6 @@
 -- `labels_peel::lower_global_bound` meets its contract. Assumes nothing.
 use native.Mathlib.Omega.{arith}
-use Rattle.labels_peel.specs.LoopLaws.{less-holds, all-groups-is}
+use Rattle.labels_peel.specs.LoopLaws.{all-groups-is}
 use borrow.Author.Needs.{needs}
 use Rattle.labels_peel.proofs.lower_global_bound.Statement.{statement}
 use Rattle.labels_peel.proofs.lower_global_bound.Tie as tie
@@ -12,23 +12,13 @@ smaller-requires : tie.Need-smaller-requires
 smaller-requires c κs = search needs
 
 set-global-bound-requires : tie.Need-set-global-bound-requires
-set-global-bound-requires c κs =
-    let start : tie.Start = search in (
-      less-holds 0 (omega arith) (start .pre),
-      omega (arith, c .smaller .ensures, start .pre .small),
-    )
+set-global-bound-requires c κs = omega arith
 
 same-length : tie.Need-same-length
 same-length c = search needs
 
 returns : tie.Need-returns
-returns c =
-    let start : tie.Start = search in
-    let after-global-bound : tie.After-global-bound = search in
-    let after-smaller : tie.After-smaller = search in
-    all-groups-is (start .args .w) (after-global-bound .global-bound .result)
-    (after-smaller .smaller .result) _ _ (after-global-bound .global-bound .ensures) (after-smaller .smaller .ensures)
-    (c .before .set-global-bound .ensures)
+returns c = search all-groups-is
 
 pub lower-global-bound-spec : {M : Type 1} → statement M
 lower-global-bound-spec =

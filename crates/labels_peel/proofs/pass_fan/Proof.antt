@@ -1,6 +1,6 @@
 -- `labels_peel::pass_fan` meets its contract: the rest of the fan comes to the whole of it. Assumes nothing.
 use native.Mathlib.Omega.{arith}
-use mathlib.Core.Path.{refl, _∙_}
+use mathlib.Core.Path.{_∙_}
 use Rattle.labels_peel.specs.LoopLaws.{Fanning, holds-kept, room-kept, org-holds, prev-small, fan-over, fan-more, fan-none}
 use borrow.Author.Needs.{needs}
 use Rattle.labels_peel.proofs.pass_fan.Statement.{statement}
@@ -13,10 +13,10 @@ abbrev μ-loop : tie.MeasureT-loop
 μ-loop triangles s₀ right first g₀ k₀ s g k = k
 
 loop-holds : tie.Need-loop-holds Inv-loop μ-loop
-loop-holds c = record { long = refl; dart = c .before .pre .1; rest = refl }
+loop-holds c = search needs
 
 prev-dart-requires : tie.Need-prev-dart-requires Inv-loop μ-loop
-prev-dart-requires c κs = omega (arith, c .before .loop .inv .dart)
+prev-dart-requires c κs = omega arith
 
 origin-requires : tie.Need-origin-requires Inv-loop μ-loop
 origin-requires c κs = search needs
@@ -25,36 +25,13 @@ opposite-requires : tie.Need-opposite-requires Inv-loop μ-loop
 opposite-requires c κs = search needs
 
 pass-triangle-requires : tie.Need-pass-triangle-requires Inv-loop μ-loop
-pass-triangle-requires c κs =
-    let start : tie.Start Inv-loop μ-loop = search in
-    let at-loop : tie.At-loop Inv-loop μ-loop = search in
-    room-kept (at-loop .loop .inv .long)
-    (start .pre .0)
+pass-triangle-requires c κs = search room-kept
 
 same-length : tie.Need-same-length Inv-loop μ-loop
-same-length c =
-    let at-loop : tie.At-loop Inv-loop μ-loop = search in
-    let after-pass-triangle : tie.After-pass-triangle Inv-loop μ-loop = search in
-    after-pass-triangle .pass-triangle .kept .1 .0 ∙ at-loop .loop .inv .long
+same-length c = omega arith
 
 returns : tie.Need-returns Inv-loop μ-loop
-returns c =
-    let start : tie.Start Inv-loop μ-loop = search in
-    let at-loop : tie.At-loop Inv-loop μ-loop = search in
-    let in-loop : tie.In-loop Inv-loop μ-loop = search in
-    let after-prev-dart : tie.After-prev-dart Inv-loop μ-loop = search in
-    let after-origin : tie.After-origin Inv-loop μ-loop = search in
-    let after-opposite : tie.After-opposite Inv-loop μ-loop = search in
-    let after-pass-triangle : tie.After-pass-triangle Inv-loop μ-loop = search in
-    fan-over _ (start .args .right)
-    (at-loop .loop .k)
-    (at-loop .loop .g)
-    (after-prev-dart .prev-dart .result) (after-opposite .opposite .result)
-    (after-origin .origin .result) _ _ _
-    (in-loop .loop-test .taken)
-    (after-prev-dart .prev-dart .ensures) (after-origin .origin .ensures .0)
-    (after-opposite .opposite .ensures .0) (after-pass-triangle .pass-triangle .ensures) (c .if1 .taken)
-    (at-loop .loop .inv .rest)
+returns c = search fan-over
 
 enter-frontier-requires : tie.Need-enter-frontier-requires Inv-loop μ-loop
 enter-frontier-requires c κs =
@@ -79,42 +56,19 @@ enter-frontier-requires c κs =
     )
 
 sub-k : tie.Need-sub-k Inv-loop μ-loop
-sub-k c =
-    let in-loop : tie.In-loop Inv-loop μ-loop = search in
-    omega (arith, in-loop .loop-test .taken)
+sub-k c = omega arith
 
 loop-less : tie.Need-loop-less Inv-loop μ-loop
-loop-less c =
-    let in-loop : tie.In-loop Inv-loop μ-loop = search in
-    omega (arith, in-loop .loop-test .taken)
+loop-less c = omega arith
 
 loop-again : tie.Need-loop-again Inv-loop μ-loop
-loop-again c = record {
-  long = c .before .enter-frontier .kept .1 .0 ∙ c .before .before .before .before .before .pass-triangle .kept .1 .0
-      ∙ c .before .before .before .before .before .before .before .before .before .before .before .before .loop .inv .long;
-  dart = c .before .before .before .before .before .before .before .opposite .ensures .1;
-  rest = fan-more _ (c .before .before .before .before .before .before .before .before .before .before .before .before .before .before .args .right)
-      (c .before .before .before .before .before .before .before .before .before .before .before .before .loop .k)
-      (c .before .before .before .before .before .before .before .before .before .before .before .before .loop .g)
-      (c .before .before .before .before .before .before .before .before .before .before .prev-dart .result)
-      (c .before .before .before .before .before .before .before .opposite .result)
-      (c .before .before .before .before .before .before .before .before .before .origin .result) _ _ _ _
-      (c .before .before .before .before .before .before .before .before .before .before .before .loop-test .taken)
-      (c .before .before .before .before .before .before .before .before .before .before .prev-dart .ensures)
-      (c .before .before .before .before .before .before .before .before .before .origin .ensures .0)
-      (c .before .before .before .before .before .before .before .opposite .ensures .0) (c .before .before .before .before .before .pass-triangle .ensures)
-      (c .before .before .before .if1 .left) (c .before .enter-frontier .ensures)
-      (c .before .before .before .before .before .before .before .before .before .before .before .before .loop .inv .rest);
-}
+loop-again c = search (fan-more, needs)
 
 same-length-2 : tie.Need-same-length-2 Inv-loop μ-loop
-same-length-2 c = c .before .loop .inv .long
+same-length-2 c = omega arith
 
 returns-2 : tie.Need-returns-2 Inv-loop μ-loop
-returns-2 c =
-    let start : tie.Start Inv-loop μ-loop = search in
-    fan-none _ (start .args .right) (c .before .loop .k) (c .before .loop .g) _ _ (c .loop-test .left)
-    (c .before .loop .inv .rest)
+returns-2 c = search fan-none
 
 pub pass-fan-spec : {M : Type 1} → statement M
 pass-fan-spec =

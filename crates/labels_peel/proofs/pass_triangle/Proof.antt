@@ -6,14 +6,10 @@ use Rattle.labels_peel.proofs.pass_triangle.Statement.{statement}
 use Rattle.labels_peel.proofs.pass_triangle.Tie as tie
 
 next-dart-requires : tie.Need-next-dart-requires
-next-dart-requires c κs =
-    let start : tie.Start = search in
-    omega (arith, start .pre .darts (start .args .g) (c .if1 .taken) .dart)
+next-dart-requires c κs = omega arith
 
 prev-dart-requires : tie.Need-prev-dart-requires
-prev-dart-requires c κs =
-    let start : tie.Start = search in
-    omega (arith, start .pre .darts (start .args .g) (c .before .if1 .taken) .dart)
+prev-dart-requires c κs = omega arith
 
 origin-requires : tie.Need-origin-requires
 origin-requires c κs = search needs
@@ -33,48 +29,16 @@ set-labels-requires c κs =
     (then1 .if1 .taken)
 
 add-frontier-dart-requires : tie.Need-add-frontier-dart-requires
-add-frontier-dart-requires c κs =
-    let start : tie.Start = search in
-    let after-next-dart : tie.After-next-dart = search in
-    let after-prev-dart : tie.After-prev-dart = search in
-    let after-origin : tie.After-origin = search in
-    let after-origin2 : tie.After-origin2 = search in
-    let after-opposite : tie.After-opposite = search in
-    let after-set-labels : tie.After-set-labels = search in (
-      holds-kept (after-set-labels .set-labels .kept .0)
-          (org-holds (after-prev-dart .prev-dart .result)
-          (after-origin .origin .result)
-          (start .pre)
-          (after-origin .origin .ensures .0)),
-      holds-kept (after-set-labels .set-labels .kept .0) (org-holds
-          (after-next-dart .next-dart .result)
-          (after-origin2 .origin2 .result)
-          (start .pre)
-          (after-origin2 .origin2 .ensures .0)),
-      omega (arith, after-opposite .opposite .ensures .1),
-    )
+add-frontier-dart-requires c κs = search (holds-kept, org-holds, needs)
 
 same-length : tie.Need-same-length
 same-length c = search needs
 
 returns : tie.Need-returns
-returns c = pass-is _ (c .before .before .before .before .before .before .before .before .before .before .before .before .before .before .args .g)
-    (c .before .before .before .before .before .before .before .before .before .before .before .next-dart .result)
-    (c .before .before .before .before .before .before .before .before .before .before .prev-dart .result)
-    (c .before .before .before .before .before .before .before .before .before .origin .result)
-    (c .before .before .before .before .before .before .before .before .origin2 .result) (c .before .before .before .before .before .before .opposite .result)
-    _ _ _ (c .before .before .before .before .before .before .before .before .before .before .before .before .if1 .taken)
-    (c .before .before .before .before .before .before .before .before .before .before .before .next-dart .ensures)
-    (c .before .before .before .before .before .before .before .before .before .before .prev-dart .ensures)
-    (c .before .before .before .before .before .before .before .before .before .origin .ensures .0)
-    (c .before .before .before .before .before .before .before .before .origin2 .ensures .0)
-    (c .before .before .before .before .before .before .opposite .ensures .0) (c .before .before .before .before .set-labels .ensures)
-    (c .before .add-frontier-dart .ensures)
+returns c = search pass-is
 
 returns-2 : tie.Need-returns-2
-returns-2 c =
-    let start : tie.Start = search in
-    pass-none _ (start .args .g) _ (c .if1 .left)
+returns-2 c = search pass-none
 
 pub pass-triangle-spec : {M : Type 1} → statement M
 pass-triangle-spec =

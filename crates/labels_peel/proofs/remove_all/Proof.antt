@@ -1,7 +1,7 @@
 -- `labels_peel::remove_all` meets its contract: what is left of the removals comes to all of them. Assumes nothing.
+use borrow.Author.Needs.{needs}
 use native.Mathlib.Omega.{arith}
 use Prim.Native.Nat.{_-_}
-use mathlib.Core.Path.{_∙_}
 use Rattle.labels_peel.specs.LoopLaws.{Turning, turning-none, room-kept, wide-kept, all-more, all-over}
 use Rattle.labels_peel.proofs.remove_all.Statement.{statement}
 use Rattle.labels_peel.proofs.remove_all.Tie as tie
@@ -13,52 +13,28 @@ abbrev μ-loop : tie.MeasureT-loop
 μ-loop n triangles s₀ i₀ s i = n - i
 
 loop-holds : tie.Need-loop-holds Inv-loop μ-loop
-loop-holds c = turning-none _ (c .before .args .n) (c .before .args .s .now)
+loop-holds c = search turning-none
 
 add-loop : tie.Need-add-loop Inv-loop μ-loop
-add-loop c =
-    let start : tie.Start Inv-loop μ-loop = search in
-    omega (arith, c .loop .inv .within, start .pre .1 .small)
+add-loop c = omega arith
 
 remove-next-requires : tie.Need-remove-next-requires Inv-loop μ-loop
-remove-next-requires c κs =
-    let start : tie.Start Inv-loop μ-loop = search in
-    let at-loop : tie.At-loop Inv-loop μ-loop = search in (
-      room-kept (at-loop .loop .inv .long) (start .pre .0),
-      wide-kept (at-loop .loop .inv .long) (start .pre .1),
-      omega (arith, c .before .loop-test .taken),
-    )
+remove-next-requires c κs = search (room-kept, wide-kept, needs)
 
 add-i : tie.Need-add-i Inv-loop μ-loop
-add-i c =
-    let start : tie.Start Inv-loop μ-loop = search in
-    let at-loop : tie.At-loop Inv-loop μ-loop = search in
-    omega (arith, at-loop .loop .inv .within, start .pre .1 .small)
+add-i c = omega arith
 
 loop-less : tie.Need-loop-less Inv-loop μ-loop
-loop-less c =
-    let in-loop : tie.In-loop Inv-loop μ-loop = search in
-    omega (arith, in-loop .loop-test .taken)
+loop-less c = omega arith
 
 loop-again : tie.Need-loop-again Inv-loop μ-loop
-loop-again c =
-    let start : tie.Start Inv-loop μ-loop = search in
-    let at-loop : tie.At-loop Inv-loop μ-loop = search in
-    let in-loop : tie.In-loop Inv-loop μ-loop = search in
-    record {
-      long = c .before .remove-next .kept .1 .1 .0 ∙ at-loop .loop .inv .long;
-      within = omega (arith, in-loop .loop-test .taken);
-      rest = all-more _ (start .args .n) (at-loop .loop .i) _ _ _
-          (in-loop .loop-test .taken) (c .before .remove-next .ensures) (at-loop .loop .inv .rest);
-    }
+loop-again c = search (all-more, needs)
 
 same-length : tie.Need-same-length Inv-loop μ-loop
-same-length c = c .before .loop .inv .long
+same-length c = omega arith
 
 returns : tie.Need-returns Inv-loop μ-loop
-returns c =
-    let start : tie.Start Inv-loop μ-loop = search in
-    all-over _ (start .args .n) (c .before .loop .i) _ _ (c .loop-test .left) (c .before .loop .inv .rest)
+returns c = search all-over
 
 pub remove-all-spec : {M : Type 1} → statement M
 remove-all-spec =

@@ -13,14 +13,7 @@ first-removable-requires : tie.Need-first-removable-requires
 first-removable-requires c κs = search needs
 
 set-global-bound-requires : tie.Need-set-global-bound-requires
-set-global-bound-requires c κs =
-    let start : tie.Start = search in
-    let after-first-removable : tie.After-first-removable = search in (
-      holds-kept (after-first-removable .first-removable .kept .1 .1 .0)
-          (below-holds 0 (start .pre .1)
-          (omega (arith, start .pre .2))),
-      omega (arith, c .before .if1 .taken, start .pre .1 .small),
-    )
+set-global-bound-requires c κs = omega arith
 
 remove-vertex-requires : tie.Need-remove-vertex-requires
 remove-vertex-requires c κs =
@@ -43,33 +36,13 @@ same-length : tie.Need-same-length
 same-length c = search needs
 
 returns : tie.Need-returns
-returns c =
-    let start : tie.Start = search in
-    let after-global-bound : tie.After-global-bound = search in
-    let after-first-removable : tie.After-first-removable = search in
-    let then1 : tie.Then1 = search in
-    let after-set-global-bound : tie.After-set-global-bound = search in
-    turn-leaves _ (start .args .n)
-    (start .args .i)
-    (after-first-removable .first-removable .result) _ _ _ _
-    (after-global-bound .global-bound .result)
-    (after-global-bound .global-bound .ensures)
-    (after-first-removable .first-removable .ensures)
-    (then1 .if1 .taken) (after-set-global-bound .set-global-bound .ensures)
-    (c .before .remove-vertex .ensures)
+returns c = search turn-leaves
 
 same-length-2 : tie.Need-same-length-2
 same-length-2 c = search needs
 
 returns-2 : tie.Need-returns-2
-returns-2 c =
-    let start : tie.Start = search in
-    let after-global-bound : tie.After-global-bound = search in
-    let after-first-removable : tie.After-first-removable = search in
-    turn-stays _ (start .args .n)
-    (start .args .i) (after-first-removable .first-removable .result) _ _
-    (after-global-bound .global-bound .result) (after-global-bound .global-bound .ensures)
-    (after-first-removable .first-removable .ensures) (c .if1 .left)
+returns-2 c = search turn-stays
 
 pub remove-next-spec : {M : Type 1} → statement M
 remove-next-spec =

@@ -1,55 +1,39 @@
 -- `labels_peel::set_block_bound` meets its contract. Assumes nothing.
 use native.Mathlib.Omega.{arith}
-use Rattle.labels_peel.specs.LoopLaws.{mark-room, setLow-is}
+use Rattle.labels_peel.specs.LoopLaws.{setLow-is}
 use borrow.Author.Needs.{needs}
 use Rattle.labels_peel.proofs.set_block_bound.Statement.{statement}
 use Rattle.labels_peel.proofs.set_block_bound.Tie as tie
 
 mul-get-mark : tie.Need-mul-get-mark
-mul-get-mark c = omega (arith, c .before .pre .0 .small)
+mul-get-mark c = omega arith
 
 get-mark-requires : tie.Need-get-mark-requires
 get-mark-requires c κs = search needs
 
 mul-set-mark : tie.Need-mul-set-mark
-mul-set-mark c =
-    let start : tie.Start = search in
-    omega (arith, start .pre .0 .small)
+mul-set-mark c = omega arith
 
 mul-set-mark-2 : tie.Need-mul-set-mark-2
-mul-set-mark-2 c =
-    let start : tie.Start = search in
-    omega (arith, c .before .get-mark .ensures .1, start .pre .1)
+mul-set-mark-2 c = omega arith
 
 add-set-mark : tie.Need-add-set-mark
-add-set-mark c =
-    let start : tie.Start = search in
-    omega (arith, c .before .get-mark .ensures .1, start .pre .1)
+add-set-mark c = omega arith
 
 mul-set-mark-3 : tie.Need-mul-set-mark-3
-mul-set-mark-3 c =
-    let start : tie.Start = search in
-    omega (arith, c .before .get-mark .ensures .1, start .pre .1)
+mul-set-mark-3 c = omega arith
 
 add-set-mark-2 : tie.Need-add-set-mark-2
-add-set-mark-2 c =
-    let start : tie.Start = search in
-    omega (arith, c .before .get-mark .ensures .1, start .pre .1)
+add-set-mark-2 c = omega arith
 
 set-mark-requires : tie.Need-set-mark-requires
-set-mark-requires c κs =
-    let start : tie.Start = search in
-    (mark-room (start .pre .0), omega (arith, c .before .get-mark .ensures .1, start .pre .1))
+set-mark-requires c κs = omega arith
 
 same-length : tie.Need-same-length
 same-length c = search needs
 
 returns : tie.Need-returns
-returns c =
-    let start : tie.Start = search in
-    let after-get-mark : tie.After-get-mark = search in
-    setLow-is (start .args .b) (start .args .x)
-    (after-get-mark .get-mark .result) _ _ (after-get-mark .get-mark .ensures .0) (c .before .set-mark .ensures)
+returns c = search setLow-is
 
 pub set-block-bound-spec : {M : Type 1} → statement M
 set-block-bound-spec =

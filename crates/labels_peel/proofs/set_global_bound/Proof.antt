@@ -1,6 +1,6 @@
 -- `labels_peel::set_global_bound` meets its contract. Assumes nothing.
 use native.Mathlib.Omega.{arith}
-use Rattle.labels_peel.specs.LoopLaws.{mark-room, setRoot-is}
+use Rattle.labels_peel.specs.LoopLaws.{setRoot-is}
 use borrow.Author.Needs.{needs}
 use Rattle.labels_peel.proofs.set_global_bound.Statement.{statement}
 use Rattle.labels_peel.proofs.set_global_bound.Tie as tie
@@ -15,19 +15,13 @@ add-set-mark : tie.Need-add-set-mark
 add-set-mark c = search needs
 
 set-mark-requires : tie.Need-set-mark-requires
-set-mark-requires c κs =
-    let start : tie.Start = search in
-    (mark-room (start .pre .0), omega (arith, c .before .get-mark .ensures .1, start .pre .1))
+set-mark-requires c κs = omega arith
 
 same-length : tie.Need-same-length
 same-length c = search needs
 
 returns : tie.Need-returns
-returns c =
-    let start : tie.Start = search in
-    let after-get-mark : tie.After-get-mark = search in
-    setRoot-is (start .args .x) (after-get-mark .get-mark .result) _ _
-    (after-get-mark .get-mark .ensures .0) (c .before .set-mark .ensures)
+returns c = search setRoot-is
 
 pub set-global-bound-spec : {M : Type 1} → statement M
 set-global-bound-spec =

@@ -1,6 +1,6 @@
 -- `labels_peel::set_labels` meets its contract. Assumes nothing.
 use native.Mathlib.Omega.{arith}
-use Rattle.labels_peel.specs.LoopLaws.{tag-is, tagging-kept}
+use Rattle.labels_peel.specs.LoopLaws.{tag-is}
 use borrow.Author.Needs.{needs}
 use Rattle.labels_peel.proofs.set_labels.Statement.{statement}
 use Rattle.labels_peel.proofs.set_labels.Tie as tie
@@ -9,7 +9,7 @@ next-dart-requires : tie.Need-next-dart-requires
 next-dart-requires c κs = omega (arith, c .pre .dart)
 
 prev-dart-requires : tie.Need-prev-dart-requires
-prev-dart-requires c κs = omega (arith, c .before .pre .dart)
+prev-dart-requires c κs = omega arith
 
 opposite-requires : tie.Need-opposite-requires
 opposite-requires c κs = search needs
@@ -30,51 +30,19 @@ dart-word-requires-3 : tie.Need-dart-word-requires-3
 dart-word-requires-3 c κs = search needs
 
 set-op-requires : tie.Need-set-op-requires
-set-op-requires c κs =
-    let start : tie.Start = search in
-    let after-next-dart : tie.After-next-dart = search in
-    let after-dart-word : tie.After-dart-word = search in (
-      rw (after-next-dart .next-dart .ensures)
-          (start .pre .following),
-      after-dart-word .dart-word .ensures .1,
-    )
+set-op-requires c κs = omega arith
 
 set-op-requires-2 : tie.Need-set-op-requires-2
-set-op-requires-2 c κs =
-    let start : tie.Start = search in
-    let after-prev-dart : tie.After-prev-dart = search in
-    let after-dart-word2 : tie.After-dart-word2 = search in
-    let after-set-op : tie.After-set-op = search in (
-      rw (after-prev-dart .prev-dart .ensures)
-          (tagging-kept (after-set-op .set-op .kept .0)
-          (start .pre) .previous),
-      after-dart-word2 .dart-word2 .ensures .1,
-    )
+set-op-requires-2 c κs = omega arith
 
 set-op-requires-3 : tie.Need-set-op-requires-3
-set-op-requires-3 c κs =
-    let start : tie.Start = search in
-    let after-dart-word3 : tie.After-dart-word3 = search in
-    let after-set-op : tie.After-set-op = search in
-    let after-set-op2 : tie.After-set-op2 = search in (
-      omega (
-        arith,
-        after-set-op2 .set-op2 .kept .0,
-        after-set-op .set-op .kept .0,
-        start .pre .here,
-      ),
-      after-dart-word3 .dart-word3 .ensures .1,
-    )
+set-op-requires-3 c κs = omega arith
 
 same-length : tie.Need-same-length
 same-length c = search needs
 
 returns : tie.Need-returns
-returns c =
-    tag-is (c .before .before .before .before .before .before .before .before .before .before .before .before .before .before .before .before .before .before .before .before .args .g) (c .before .before .before .before .before .before .before .before .before .before .before .before .before .before .before .before .before .before .before .next-dart .result) (c .before .before .before .before .before .before .before .before .before .before .before .before .before .before .before .before .before .before .prev-dart .result) (c .before .before .before .before .before .before .before .before .before .before .before .before .before .before .before .before .opposite .result) (c .before .before .before .before .before .before .before .before .before .before .before .before .before .before .before .dart-word .result) (c .before .before .before .before .before .before .before .before .before .before .before .before .before .opposite2 .result) (c .before .before .before .before .before .before .before .before .before .before .before .before .dart-word2 .result) (c .before .before .before .before .before .before .before .before .before .before .opposite3 .result) (c .before .before .before .before .before .before .before .before .before .dart-word3 .result) _ _ _ _
-    (c .before .before .before .before .before .before .before .before .before .before .before .before .before .before .before .before .before .before .before .next-dart .ensures) (c .before .before .before .before .before .before .before .before .before .before .before .before .before .before .before .before .before .before .prev-dart .ensures) (c .before .before .before .before .before .before .before .before .before .before .before .before .before .before .before .before .opposite .ensures .0) (c .before .before .before .before .before .before .before .before .before .before .before .before .before .before .before .dart-word .ensures .0) (c .before .before .before .before .before .before .before .before .before .before .before .before .before .opposite2 .ensures .0) (c .before .before .before .before .before .before .before .before .before .before .before .before .dart-word2 .ensures .0) (c .before .before .before .before .before .before .before .before .before .before .opposite3 .ensures .0) (c .before .before .before .before .before .before .before .before .before .dart-word3 .ensures .0)
-    (c .before .before .before .before .before .before .before .set-op .ensures) (c .before .before .before .before .set-op2 .ensures)
-    (c .before .set-op3 .ensures)
+returns c = search tag-is
 
 pub set-labels-spec : {M : Type 1} → statement M
 set-labels-spec =

@@ -1,7 +1,7 @@
 -- `maps_backward::weight_at` meets its contract: three slopes of at most twice the limit leave their difference room. Assumes nothing.
 use Rattle.scratch_tables.specs.Tables.{tablesOf}
 use Rattle.int64.specs.Whole.{values, sizes}
-use Rattle.maps_backward.specs.Slopes.{weightFrom, weightFrom-made}
+use Rattle.maps_backward.specs.Slopes.{weightFrom-made}
 use borrow.Author.Needs.{needs}
 use Rattle.maps_backward.proofs.weight_at.Statement.{statement}
 use Rattle.maps_backward.proofs.weight_at.Tie as tie

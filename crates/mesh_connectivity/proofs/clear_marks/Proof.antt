@@ -1,4 +1,5 @@
 -- `mesh_connectivity::clear_marks` meets its contract. The loop's invariant: the marks passed are zero, and the other tables are as before. Assumes nothing.
+use borrow.Author.Needs.{needs}
 use Prim.Native.Nat.{_-_, _≤_}
 use native.Mathlib.Omega.{arith}
 use Rattle.mesh_connectivity.specs.FloodFillLoops.{Wiping, wiping-start, wiping-next, wiping-all}
@@ -15,47 +16,30 @@ loop-holds : tie.Need-loop-holds Inv-loop μ-loop
 loop-holds c = (wiping-start (c .args .s .now), omega arith)
 
 set-mark-requires : tie.Need-set-mark-requires Inv-loop μ-loop
-set-mark-requires c κs =
-    let start : tie.Start Inv-loop μ-loop = search in
+set-mark-requires c κs = let start : tie.Start Inv-loop μ-loop = search in
     let at-loop : tie.At-loop Inv-loop μ-loop = search in (
       omega (
         arith,
-        start .pre .at (at-loop .loop .t) (c .before .loop-test .taken),
+        start .pre .at (at-loop .loop .t) (search),
         at-loop .loop .inv .0 .long,
       ),
       omega arith,
     )
 
 add-t : tie.Need-add-t Inv-loop μ-loop
-add-t c =
-    let start : tie.Start Inv-loop μ-loop = search in
-    let in-loop : tie.In-loop Inv-loop μ-loop = search in
-    omega (arith, in-loop .loop-test .taken, start .fits .m)
+add-t c = omega arith
 
 loop-less : tie.Need-loop-less Inv-loop μ-loop
-loop-less c =
-    let in-loop : tie.In-loop Inv-loop μ-loop = search in
-    omega (arith, in-loop .loop-test .taken)
+loop-less c = omega arith
 
 loop-again : tie.Need-loop-again Inv-loop μ-loop
-loop-again c =
-    let start : tie.Start Inv-loop μ-loop = search in
-    let at-loop : tie.At-loop Inv-loop μ-loop = search in
-    let in-loop : tie.In-loop Inv-loop μ-loop = search in (
-      wiping-next (start .args .s .now) (at-loop .loop .s) (c .before .set-mark .last .0)
-          (at-loop .loop .t) (c .before .set-mark .kept .0) (c .before .set-mark .ensures)
-          (at-loop .loop .inv .0),
-      omega (arith, in-loop .loop-test .taken),
-    )
+loop-again c = search (wiping-next, needs)
 
 same-length : tie.Need-same-length Inv-loop μ-loop
-same-length c = c .before .loop .inv .0 .long
+same-length c = omega arith
 
 returns : tie.Need-returns Inv-loop μ-loop
-returns c =
-    let start : tie.Start Inv-loop μ-loop = search in
-    wiping-all (start .args .s .now) (c .before .loop .s) (c .before .loop .t) (start .args .m) (c .before .loop .inv .1)
-    (c .loop-test .left) (c .before .loop .inv .0)
+returns c = search wiping-all
 
 pub clear-marks-spec : {M : Type 1} → statement M
 clear-marks-spec =

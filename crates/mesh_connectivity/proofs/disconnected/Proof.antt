@@ -1,6 +1,5 @@
 -- `mesh_connectivity::disconnected` meets its contract, from those of its four steps. Assumes nothing.
 use native.Mathlib.Omega.{arith}
-use mathlib.Core.Path.{_∙_}
 use Rattle.mesh_connectivity.specs.FloodFillLoops.{split, marks-same}
 use borrow.Author.Needs.{needs}
 use Rattle.mesh_connectivity.proofs.disconnected.Statement.{statement}
@@ -22,12 +21,7 @@ set-mark-requires c κs =
     )
 
 flood-fill-requires : tie.Need-flood-fill-requires
-flood-fill-requires c κs =
-    let start : tie.Start = search in
-    let after-clear-marks : tie.After-clear-marks = search in
-    let after-set-mark : tie.After-set-mark = search in
-    marks-same (start .args .m) (after-set-mark .set-mark .kept .0
-    ∙ after-clear-marks .clear-marks .kept .0) (start .pre .0)
+flood-fill-requires c κs = search marks-same
 
 some-unmarked-requires : tie.Need-some-unmarked-requires
 some-unmarked-requires c κs = search needs
@@ -36,17 +30,7 @@ same-length : tie.Need-same-length
 same-length c = search needs
 
 returns : tie.Need-returns
-returns c =
-    let start : tie.Start = search in
-    let after-clear-marks : tie.After-clear-marks = search in
-    let after-set-mark : tie.After-set-mark = search in
-    let after-flood-fill : tie.After-flood-fill = search in
-    split (start .args .m)
-    (start .args .s .now)
-    (after-clear-marks .clear-marks .last .0)
-    (after-set-mark .set-mark .last .0) (after-flood-fill .flood-fill .last .0) (c .some-unmarked .result)
-    (after-clear-marks .clear-marks .ensures)
-    (after-set-mark .set-mark .ensures) (after-flood-fill .flood-fill .ensures) (c .some-unmarked .ensures)
+returns c = search split
 
 pub disconnected-spec : {M : Type 1} → statement M
 disconnected-spec =

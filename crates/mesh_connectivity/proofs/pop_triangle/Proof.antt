@@ -1,6 +1,5 @@
 -- `mesh_connectivity::pop_triangle` meets its contract, from those of the three visits. Assumes nothing.
 use Prim.Native.Nat.{_-_}
-use native.Mathlib.Omega.{arith}
 use mathlib.Core.Path.{refl, _∙_, ap}
 use Rattle.mesh_connectivity.specs.FloodFillLoops.{moved-leave, moved-out, marks-same}
 use borrow.Author.Needs.{needs}
@@ -29,13 +28,7 @@ add-push-neighbour : tie.Need-add-push-neighbour
 add-push-neighbour c = search needs
 
 push-neighbour-requires-2 : tie.Need-push-neighbour-requires-2
-push-neighbour-requires-2 c κs =
-    let start : tie.Start = search in
-    let after-push-neighbour : tie.After-push-neighbour = search in (
-      marks-same (start .args .m) (after-push-neighbour .push-neighbour .kept .0)
-          (start .pre .0),
-      after-push-neighbour .push-neighbour .ensures .1,
-    )
+push-neighbour-requires-2 c κs = search marks-same
 
 mul-push-neighbour-3 : tie.Need-mul-push-neighbour-3
 mul-push-neighbour-3 c = search needs
@@ -58,8 +51,7 @@ same-length : tie.Need-same-length
 same-length c = search needs
 
 returns : tie.Need-returns
-returns c =
-    let start : tie.Start = search in
+returns c = let start : tie.Start = search in
     let then1 : tie.Then1 = search in
     let after-get-mark : tie.After-get-mark = search in
     let after-saturating-sub : tie.After-saturating-sub = search in
@@ -67,24 +59,24 @@ returns c =
     let after-push-neighbour2 : tie.After-push-neighbour2 = search in (
       moved-leave (start .args .s .now)
           (after-push-neighbour .push-neighbour .last .0) (after-push-neighbour2 .push-neighbour2 .last .0)
-          (c .before .push-neighbour3 .last .0)
+          _
           (start .args .m)
           (start .args .top - 1)
           (start .args .top)
           (after-saturating-sub .saturating-sub .result)
           (after-push-neighbour .push-neighbour .result) (after-push-neighbour2 .push-neighbour2 .result)
-          (c .before .push-neighbour3 .result)
+          _
           (start .pre .1) refl
           (then1 .if1 .taken)
           (after-saturating-sub .saturating-sub .ensures .0
           ∙ ap (λ x. x - 1) (after-get-mark .get-mark .ensures .0))
           (after-push-neighbour .push-neighbour .ensures .0) (after-push-neighbour2 .push-neighbour2 .ensures .0)
-          (c .before .push-neighbour3 .ensures .0),
+          (search),
       c .before .push-neighbour3 .ensures .1,
     )
 
 returns-2 : tie.Need-returns-2
-returns-2 c = (moved-out (c .before .args .s .now) (c .before .args .m) (c .before .args .top - 1) (c .before .args .top) refl (c .if1 .left), omega arith)
+returns-2 c = search (moved-out, needs)
 
 pub pop-triangle-spec : {M : Type 1} → statement M
 pop-triangle-spec =

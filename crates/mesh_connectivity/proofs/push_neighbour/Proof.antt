@@ -19,13 +19,12 @@ add-set-mark : tie.Need-add-set-mark
 add-set-mark c = search needs
 
 set-mark-requires : tie.Need-set-mark-requires
-set-mark-requires c κs =
-    let start : tie.Start = search in
+set-mark-requires c κs = let start : tie.Start = search in
     let after-get-op : tie.After-get-op = search in
     let after-is-unreached : tie.After-is-unreached = search in
     let low = new-below (start .args .m) (after-get-op .get-op .result / 3)
     (tablesOf (start .args .s .now) .mark) (after-is-unreached .is-unreached .result)
-    (after-is-unreached .is-unreached .ensures) (c .before .if1 .taken) in (
+    (after-is-unreached .is-unreached .ensures) (search) in (
       start .pre .0 .at (after-get-op .get-op .result / 3) low,
       start .pre .1,
     )
@@ -38,8 +37,7 @@ same-length c = search needs
 
 returns : tie.Need-returns
 unfolding tri
-returns c =
-    let start : tie.Start = search in
+returns c = let start : tie.Start = search in
     let after-get-op : tie.After-get-op = search in
     let after-is-unreached : tie.After-is-unreached = search in
     let then1 : tie.Then1 = search in
@@ -48,12 +46,12 @@ returns c =
     (tablesOf (start .args .s .now) .mark)
     (after-is-unreached .is-unreached .result) (after-is-unreached .is-unreached .ensures)
     (then1 .if1 .taken) in (
-      moved-new (start .args .s .now) (c .before .set-mark .last .0)
+      moved-new (start .args .s .now) _
           (start .args .m)
           (start .args .d) (after-get-op .get-op .result / 3)
           (start .args .top) (after-is-unreached .is-unreached .result)
           (ap tri (after-get-op .get-op .ensures .0)) (after-is-unreached .is-unreached .ensures)
-          (then1 .if1 .taken) (c .before .set-mark .ensures),
+          (then1 .if1 .taken) (search),
       omega (arith, low, start .pre .0 .few),
     )
 

@@ -14,55 +14,45 @@ abbrev μ-loop : tie.MeasureT-loop
 μ-loop s h k d₀ i₀ d i = k - i
 
 loop-holds : tie.Need-loop-holds Inv-loop μ-loop
-loop-holds c = rotating-start (tablesOf (c .args .s .now) .op) (c .args .h) (c .args .k) (c .pre)
+loop-holds c = search (tablesOf, rotating-start)
 
 prev-dart-requires : tie.Need-prev-dart-requires Inv-loop μ-loop
-prev-dart-requires c κs = c .before .loop .inv .small
+prev-dart-requires c κs = omega arith
 
 get-op-requires : tie.Need-get-op-requires Inv-loop μ-loop
 get-op-requires c κs = tt
 
 returns : tie.Need-returns Inv-loop μ-loop
-returns c =
-    let start : tie.Start Inv-loop μ-loop = search in
+returns c = let start : tie.Start Inv-loop μ-loop = search in
     let at-loop : tie.At-loop Inv-loop μ-loop = search in
     let in-loop : tie.In-loop Inv-loop μ-loop = search in
     let after-prev-dart : tie.After-prev-dart Inv-loop μ-loop = search in
     let op = tablesOf (start .args .s .now) .op in
     rotating-back op (start .args .h) (start .args .k)
-    (at-loop .loop .d) (c .before .get-op .result) (at-loop .loop .i)
+    (at-loop .loop .d) _ (at-loop .loop .i)
     (in-loop .loop-test .taken)
-    (c .before .get-op .ensures .0 ∙ ap op (after-prev-dart .prev-dart .ensures)) (c .if1 .taken) (at-loop .loop .inv)
+    (c .before .get-op .ensures .0 ∙ ap op (after-prev-dart .prev-dart .ensures)) (search) (at-loop .loop .inv)
 
 add-i : tie.Need-add-i Inv-loop μ-loop
-add-i c =
-    let start : tie.Start Inv-loop μ-loop = search in
-    let in-loop : tie.In-loop Inv-loop μ-loop = search in
-    omega (arith, in-loop .loop-test .taken, start .fits .k)
+add-i c = omega arith
 
 loop-less : tie.Need-loop-less Inv-loop μ-loop
-loop-less c =
-    let in-loop : tie.In-loop Inv-loop μ-loop = search in
-    omega (arith, in-loop .loop-test .taken)
+loop-less c = omega arith
 
 loop-again : tie.Need-loop-again Inv-loop μ-loop
-loop-again c =
-    let start : tie.Start Inv-loop μ-loop = search in
+loop-again c = let start : tie.Start Inv-loop μ-loop = search in
     let at-loop : tie.At-loop Inv-loop μ-loop = search in
     let in-loop : tie.In-loop Inv-loop μ-loop = search in
     let after-prev-dart : tie.After-prev-dart Inv-loop μ-loop = search in
     let op = tablesOf (start .args .s .now) .op in
     rotating-next op (start .args .h) (start .args .k)
-    (at-loop .loop .d) (c .before .get-op .result) (at-loop .loop .i)
+    (at-loop .loop .d) _ (at-loop .loop .i)
     (in-loop .loop-test .taken)
-    (c .before .get-op .ensures .0 ∙ ap op (after-prev-dart .prev-dart .ensures)) (c .if1 .left) (c .before .get-op .ensures .1)
+    (c .before .get-op .ensures .0 ∙ ap op (after-prev-dart .prev-dart .ensures)) (search) (search)
     (at-loop .loop .inv)
 
 returns-2 : tie.Need-returns-2 Inv-loop μ-loop
-returns-2 c =
-    let start : tie.Start Inv-loop μ-loop = search in
-    rotating-none (tablesOf (start .args .s .now) .op) (start .args .h) (start .args .k) (c .before .loop .d)
-    (c .before .loop .i) (c .loop-test .left) (c .before .loop .inv)
+returns-2 c = search (tablesOf, rotating-none)
 
 pub returns-to-spec : {M : Type 1} → statement M
 returns-to-spec =

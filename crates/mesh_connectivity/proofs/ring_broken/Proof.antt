@@ -10,10 +10,7 @@ get-count-requires : tie.Need-get-count-requires
 get-count-requires c κs = search needs
 
 returns : tie.Need-returns
-returns c =
-    let start : tie.Start = search in
-    broken-none (tablesOf (start .args .s .now)) (start .args .v) (c .before .get-count .result)
-    (c .before .get-count .ensures .0) (c .if1 .taken)
+returns c = search (tablesOf, broken-none)
 
 get-head-requires : tie.Need-get-head-requires
 get-head-requires c κs = search needs
@@ -25,13 +22,12 @@ returns-to-requires : tie.Need-returns-to-requires
 returns-to-requires c κs = search needs
 
 returns-2 : tie.Need-returns-2
-returns-2 c =
-    let start : tie.Start = search in
+returns-2 c = let start : tie.Start = search in
     let after-get-count : tie.After-get-count = search in
     let else1 : tie.Else1 = search in
     c .returns-to .ensures ∙ broken-some (tablesOf (start .args .s .now)) (start .args .v)
-    (after-get-count .get-count .result) (c .before .get-head .result)
-    (after-get-count .get-count .ensures .0) (else1 .if1 .left) (c .before .get-head .ensures .0)
+    (after-get-count .get-count .result) _
+    (after-get-count .get-count .ensures .0) (else1 .if1 .left) (search)
 
 pub ring-broken-spec : {M : Type 1} → statement M
 ring-broken-spec =

@@ -20,39 +20,29 @@ ring-broken-requires : tie.Need-ring-broken-requires Inv-loop μ-loop
 ring-broken-requires c κs = tt
 
 returns : tie.Need-returns Inv-loop μ-loop
-returns c =
-    let start : tie.Start Inv-loop μ-loop = search in
+returns c = let start : tie.Start Inv-loop μ-loop = search in
     let at-loop : tie.At-loop Inv-loop μ-loop = search in
     let in-loop : tie.In-loop Inv-loop μ-loop = search in
     testing-found (tablesOf (start .args .s .now)) (start .args .n)
     (at-loop .loop .v) (in-loop .loop-test .taken)
-    (sym (c .before .ring-broken .ensures) ∙ c .if1 .taken) (at-loop .loop .inv)
+    (sym (search) ∙ c .if1 .taken) (at-loop .loop .inv)
 
 add-v : tie.Need-add-v Inv-loop μ-loop
-add-v c =
-    let start : tie.Start Inv-loop μ-loop = search in
-    let in-loop : tie.In-loop Inv-loop μ-loop = search in
-    omega (arith, in-loop .loop-test .taken, start .fits .n)
+add-v c = omega arith
 
 loop-less : tie.Need-loop-less Inv-loop μ-loop
-loop-less c =
-    let in-loop : tie.In-loop Inv-loop μ-loop = search in
-    omega (arith, in-loop .loop-test .taken)
+loop-less c = omega arith
 
 loop-again : tie.Need-loop-again Inv-loop μ-loop
-loop-again c =
-    let start : tie.Start Inv-loop μ-loop = search in
+loop-again c = let start : tie.Start Inv-loop μ-loop = search in
     let at-loop : tie.At-loop Inv-loop μ-loop = search in
     let in-loop : tie.In-loop Inv-loop μ-loop = search in
     testing-next (tablesOf (start .args .s .now)) (start .args .n)
     (at-loop .loop .v) (in-loop .loop-test .taken)
-    (sym (c .before .ring-broken .ensures) ∙ c .if1 .left) (at-loop .loop .inv)
+    (sym (search) ∙ c .if1 .left) (at-loop .loop .inv)
 
 returns-2 : tie.Need-returns-2 Inv-loop μ-loop
-returns-2 c =
-    let start : tie.Start Inv-loop μ-loop = search in
-    testing-none (tablesOf (start .args .s .now)) (start .args .n) (c .before .loop .v) (c .loop-test .left)
-    (c .before .loop .inv)
+returns-2 c = search (tablesOf, testing-none)
 
 pub some-ring-broken-spec : {M : Type 1} → statement M
 some-ring-broken-spec =

@@ -17,32 +17,26 @@ abbrev μ-loop : tie.MeasureT-loop
 μ-loop s m t₀ t = m - t
 
 loop-holds : tie.Need-loop-holds Inv-loop μ-loop
-loop-holds c = seeking-start (λ i. eqb (tablesOf (c .args .s .now) .mark i) 0) (c .args .m)
+loop-holds c = search (tablesOf, seeking-start, eqb)
 
 get-mark-requires : tie.Need-get-mark-requires Inv-loop μ-loop
 get-mark-requires c κs = tt
 
 returns : tie.Need-returns Inv-loop μ-loop
-returns c =
-    let start : tie.Start Inv-loop μ-loop = search in
+returns c = let start : tie.Start Inv-loop μ-loop = search in
     let at-loop : tie.At-loop Inv-loop μ-loop = search in
     let in-loop : tie.In-loop Inv-loop μ-loop = search in
     let f = tablesOf (start .args .s .now) .mark in
     let t = at-loop .loop .t in
-    let h : eqb (f t) 0 ≡ true = eq-eqb (f t) 0 (sym (c .before .get-mark .ensures .0) ∙ c .if1 .taken) in
+    let h : eqb (f t) 0 ≡ true = eq-eqb (f t) 0 (sym (search) ∙ c .if1 .taken) in
     seeking-found (λ i. eqb (f i) 0) (start .args .m) t (in-loop .loop-test .taken) h
     (at-loop .loop .inv)
 
 add-t : tie.Need-add-t Inv-loop μ-loop
-add-t c =
-    let start : tie.Start Inv-loop μ-loop = search in
-    let in-loop : tie.In-loop Inv-loop μ-loop = search in
-    omega (arith, in-loop .loop-test .taken, start .fits .m)
+add-t c = omega arith
 
 loop-less : tie.Need-loop-less Inv-loop μ-loop
-loop-less c =
-    let in-loop : tie.In-loop Inv-loop μ-loop = search in
-    omega (arith, in-loop .loop-test .taken)
+loop-less c = omega arith
 
 loop-again : tie.Need-loop-again Inv-loop μ-loop
 loop-again c =
@@ -56,10 +50,7 @@ loop-again c =
     (at-loop .loop .inv)
 
 returns-2 : tie.Need-returns-2 Inv-loop μ-loop
-returns-2 c =
-    let start : tie.Start Inv-loop μ-loop = search in
-    seeking-end (λ i. eqb (tablesOf (start .args .s .now) .mark i) 0) (start .args .m) (c .before .loop .t)
-    (c .loop-test .left) (c .before .loop .inv)
+returns-2 c = search (tablesOf, seeking-end, eqb)
 
 pub some-unmarked-spec : {M : Type 1} → statement M
 some-unmarked-spec =

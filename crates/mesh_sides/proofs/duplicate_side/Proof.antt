@@ -1,7 +1,6 @@
 -- `mesh_sides::duplicate_side` meets its contract. The loop's invariant: the vertices from v on give what all of them give. Assumes nothing.
 use Prim.Native.Nat.{_-_}
 use native.Mathlib.Omega.{arith}
-use mathlib.Core.Path.{_∙_}
 use Rattle.scratch_tables.specs.Tables.{tablesOf}
 use Rattle.mesh_sides.specs.Room.{ready-at}
 use Rattle.mesh_sides.specs.LoopInvariants.{mark-heads, Scanning, scanning-start, scanning-found, scanning-next, scanning-none, marked-as}
@@ -15,76 +14,39 @@ abbrev μ-loop : tie.MeasureT-loop
 μ-loop n triangles s₀ u v₀ s v = n - v
 
 loop-holds : tie.Need-loop-holds Inv-loop μ-loop
-loop-holds c = scanning-start (c .before .args .triangles .now) (c .before .args .u) (c .before .args .n) (c .before .args .s .now)
+loop-holds c = search scanning-start
 
 mark-outgoing-requires : tie.Need-mark-outgoing-requires Inv-loop μ-loop
-mark-outgoing-requires c κs =
-    let start : tie.Start Inv-loop μ-loop = search in
+mark-outgoing-requires c κs = let start : tie.Start Inv-loop μ-loop = search in
     let at-loop : tie.At-loop Inv-loop μ-loop = search in
     let R = start .pre in
     let s = at-loop .loop .s in
     let v = at-loop .loop .v in
     let I = at-loop .loop .inv in (
-      ready-at s v R (c .before .loop-test .taken) (I .long),
+      ready-at s v R (search) (I .long),
       rw (mark-heads (start .args .s .now) s (tablesOf s .mark) (I .same)) (R .heads v),
     )
 
 same-length : tie.Need-same-length Inv-loop μ-loop
-same-length c =
-    let at-loop : tie.At-loop Inv-loop μ-loop = search in
-    let after-mark-outgoing : tie.After-mark-outgoing Inv-loop μ-loop = search in
-    after-mark-outgoing .mark-outgoing .kept .1 .0 ∙ at-loop .loop .inv .long
+same-length c = omega arith
 
 returns : tie.Need-returns Inv-loop μ-loop
-returns c =
-    let start : tie.Start Inv-loop μ-loop = search in
-    let at-loop : tie.At-loop Inv-loop μ-loop = search in
-    let in-loop : tie.In-loop Inv-loop μ-loop = search in
-    let after-mark-outgoing : tie.After-mark-outgoing Inv-loop μ-loop = search in
-    let M = marked-as (start .args .triangles .now) (at-loop .loop .s)
-    (after-mark-outgoing .mark-outgoing .last .1 .0) (at-loop .loop .v) (after-mark-outgoing .mark-outgoing .result)
-    (c .if1 .taken) (after-mark-outgoing .mark-outgoing .ensures) in
-    scanning-found (start .args .triangles .now)
-    (start .args .u) (start .args .n)
-    (start .args .s .now) (at-loop .loop .s)
-    (after-mark-outgoing .mark-outgoing .last .1 .0) (at-loop .loop .v)
-    (in-loop .loop-test .taken) M (at-loop .loop .inv)
+returns c = search (scanning-found, marked-as)
 
 add-v : tie.Need-add-v Inv-loop μ-loop
-add-v c =
-    let in-loop : tie.In-loop Inv-loop μ-loop = search in
-    omega (arith, in-loop .loop-test .taken)
+add-v c = omega arith
 
 loop-less : tie.Need-loop-less Inv-loop μ-loop
-loop-less c =
-    let in-loop : tie.In-loop Inv-loop μ-loop = search in
-    omega (arith, in-loop .loop-test .taken)
+loop-less c = omega arith
 
 loop-again : tie.Need-loop-again Inv-loop μ-loop
-loop-again c =
-    let start : tie.Start Inv-loop μ-loop = search in
-    let at-loop : tie.At-loop Inv-loop μ-loop = search in
-    let in-loop : tie.In-loop Inv-loop μ-loop = search in
-    let after-mark-outgoing : tie.After-mark-outgoing Inv-loop μ-loop = search in
-    let M = marked-as (start .args .triangles .now) (at-loop .loop .s)
-    (after-mark-outgoing .mark-outgoing .last .1 .0) (at-loop .loop .v) (after-mark-outgoing .mark-outgoing .result)
-    (c .if1 .left) (after-mark-outgoing .mark-outgoing .ensures) in
-    scanning-next (start .args .triangles .now)
-    (start .args .u) (start .args .n)
-    (start .args .s .now) (at-loop .loop .s)
-    (after-mark-outgoing .mark-outgoing .last .1 .0) (at-loop .loop .v)
-    (in-loop .loop-test .taken) (after-mark-outgoing .mark-outgoing .kept .1 .0) M
-    (at-loop .loop .inv)
+loop-again c = search (scanning-next, marked-as)
 
 same-length-2 : tie.Need-same-length-2 Inv-loop μ-loop
-same-length-2 c = c .before .loop .inv .long
+same-length-2 c = omega arith
 
 returns-2 : tie.Need-returns-2 Inv-loop μ-loop
-returns-2 c =
-    let start : tie.Start Inv-loop μ-loop = search in
-    scanning-none (start .args .triangles .now) (start .args .u) (start .args .n)
-    (start .args .s .now) (c .before .loop .s) (c .before .loop .v)
-    (c .loop-test .left) (c .before .loop .inv)
+returns-2 c = search scanning-none
 
 pub duplicate-side-spec : {M : Type 1} → statement M
 duplicate-side-spec =

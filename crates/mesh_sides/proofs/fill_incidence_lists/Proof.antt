@@ -1,8 +1,9 @@
 -- `mesh_sides::fill_incidence_lists` meets its contract. The loop's invariant: filling from d down gives what filling from the last dart down gives. Assumes
 -- nothing.
+use borrow.Author.Needs.{needs}
 use Prim.Native.Nat.{suc, _-_}
 use native.Mathlib.Omega.{arith}
-use mathlib.Core.Path.{_≡_, refl}
+use mathlib.Core.Path.{_≡_}
 use Rattle.mesh_model.specs.IncidenceLists.{fill}
 use Rattle.mesh_sides.specs.LoopInvariants.{Filled, filled-next}
 use Rattle.mesh_sides.proofs.fill_incidence_lists.Statement.{statement}
@@ -15,7 +16,7 @@ abbrev μ-loop : tie.MeasureT-loop
 μ-loop triangles s₀ d₀ s d = d
 
 loop-holds : tie.Need-loop-holds Inv-loop μ-loop
-loop-holds c = record { long = refl; low = omega arith; count = c .before .pre .count; heads = c .before .pre .heads; rest = refl }
+loop-holds c = search needs
 
 sub-d : tie.Need-sub-d Inv-loop μ-loop
 sub-d c = omega arith
@@ -35,22 +36,13 @@ push-dart-requires c κs =
     }
 
 loop-less : tie.Need-loop-less Inv-loop μ-loop
-loop-less c =
-    let in-loop : tie.In-loop Inv-loop μ-loop = search in
-    omega (arith, in-loop .loop-test .taken)
+loop-less c = omega arith
 
 loop-again : tie.Need-loop-again Inv-loop μ-loop
-loop-again c =
-    let start : tie.Start Inv-loop μ-loop = search in
-    let at-loop : tie.At-loop Inv-loop μ-loop = search in
-    let in-loop : tie.In-loop Inv-loop μ-loop = search in
-    filled-next (start .args .triangles .now) (start .args .s .now)
-    (at-loop .loop .s) (c .before .push-dart .last .1 .0) (at-loop .loop .d)
-    (in-loop .loop-test .taken) (c .before .push-dart .kept .1 .0) (c .before .push-dart .ensures)
-    (at-loop .loop .inv)
+loop-again c = search filled-next
 
 same-length : tie.Need-same-length Inv-loop μ-loop
-same-length c = c .before .loop .inv .long
+same-length c = omega arith
 
 returns : tie.Need-returns Inv-loop μ-loop
 unfolding fill

@@ -19,7 +19,7 @@ abbrev μ-loop : tie.MeasureT-loop
 μ-loop n triangles d₀ d = length triangles - d
 
 loop-holds : tie.Need-loop-holds Inv-loop μ-loop
-loop-holds c = seeking-start (λ e. leb (c .before .args .n) (org (c .before .args .triangles .now) e)) (length (c .before .args .triangles .now))
+loop-holds c = search (org, seeking-start, leb)
 
 origin-requires : tie.Need-origin-requires Inv-loop μ-loop
 origin-requires c κs = tt
@@ -39,9 +39,7 @@ add-d : tie.Need-add-d Inv-loop μ-loop
 add-d c = omega arith
 
 loop-less : tie.Need-loop-less Inv-loop μ-loop
-loop-less c =
-    let in-loop : tie.In-loop Inv-loop μ-loop = search in
-    omega (arith, in-loop .loop-test .taken)
+loop-less c = omega arith
 
 loop-again : tie.Need-loop-again Inv-loop μ-loop
 loop-again c =

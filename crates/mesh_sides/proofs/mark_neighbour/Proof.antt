@@ -13,15 +13,13 @@ origin-requires : tie.Need-origin-requires
 origin-requires c κs = search needs
 
 mul-get-mark : tie.Need-mul-get-mark
-mul-get-mark c = omega (arith, c .before .origin .ensures .1)
+mul-get-mark c = omega arith
 
 get-mark-requires : tie.Need-get-mark-requires
 get-mark-requires c κs = search needs
 
 add-if1 : tie.Need-add-if1
-add-if1 c =
-    let start : tie.Start = search in
-    omega (arith, start .pre .0 .small)
+add-if1 c = omega arith
 
 same-length : tie.Need-same-length
 same-length c = search needs
@@ -41,24 +39,16 @@ next-dart-requires : tie.Need-next-dart-requires
 next-dart-requires c κs = search needs
 
 mul-set-mark : tie.Need-mul-set-mark
-mul-set-mark c =
-    let after-origin : tie.After-origin = search in
-    omega (arith, after-origin .origin .ensures .1)
+mul-set-mark c = omega arith
 
 add-set-mark : tie.Need-add-set-mark
-add-set-mark c =
-    let start : tie.Start = search in
-    omega (arith, start .pre .0 .small)
+add-set-mark c = omega arith
 
 mul-set-mark-2 : tie.Need-mul-set-mark-2
-mul-set-mark-2 c =
-    let start : tie.Start = search in
-    omega (arith, start .pre .0 .small)
+mul-set-mark-2 c = omega arith
 
 add-set-mark-2 : tie.Need-add-set-mark-2
-add-set-mark-2 c =
-    let start : tie.Start = search in
-    omega (arith, start .pre .0 .small)
+add-set-mark-2 c = omega arith
 
 set-mark-requires : tie.Need-set-mark-requires
 set-mark-requires c κs =
@@ -80,8 +70,7 @@ same-length-2 : tie.Need-same-length-2
 same-length-2 c = search needs
 
 returns-2 : tie.Need-returns-2
-returns-2 c =
-    let start : tie.Start = search in
+returns-2 c = let start : tie.Start = search in
     let after-prev-dart : tie.After-prev-dart = search in
     let after-origin : tie.After-origin = search in
     let after-get-mark : tie.After-get-mark = search in
@@ -94,8 +83,8 @@ returns-2 c =
     (after-origin .origin .result) (after-get-mark .get-mark .result)
     (rw (after-prev-dart .prev-dart .ensures)
     at (after-origin .origin .ensures .0)) (after-get-mark .get-mark .ensures .0)
-    (c .before .set-mark .last .0) (after-next-dart .next-dart .result) (else1 .if1 .left)
-    (after-next-dart .next-dart .ensures) (c .before .set-mark .ensures)
+    _ (after-next-dart .next-dart .result) (else1 .if1 .left)
+    (after-next-dart .next-dart .ensures) (search)
 
 pub mark-neighbour-spec : {M : Type 1} → statement M
 mark-neighbour-spec =

@@ -1,7 +1,6 @@
 -- `mesh_sides::mark_outgoing` meets its contract. The loop's invariant: the walk from e on gives what the whole walk gives. Assumes nothing.
 use Prim.Native.Nat.{_-_}
 use native.Mathlib.Omega.{arith}
-use mathlib.Core.Path.{_∙_}
 use Rattle.mesh_sides.specs.Room.{prev-small}
 use Rattle.mesh_sides.specs.LoopInvariants.{Marking, marking-start, marking-next, marked-found, marked-none}
 use Rattle.mesh_sides.proofs.mark_outgoing.Statement.{statement}
@@ -41,84 +40,28 @@ mark-neighbour-requires c κs =
     )
 
 same-length : tie.Need-same-length Inv-loop μ-loop
-same-length c =
-    let at-loop : tie.At-loop Inv-loop μ-loop = search in
-    let after-mark-neighbour : tie.After-mark-neighbour Inv-loop μ-loop = search in
-    after-mark-neighbour .mark-neighbour .kept .1 .0 ∙ at-loop .loop .inv .long
+same-length c = omega arith
 
 returns : tie.Need-returns Inv-loop μ-loop
-returns c =
-    let start : tie.Start Inv-loop μ-loop = search in
-    let after-get-count : tie.After-get-count Inv-loop μ-loop = search in
-    let after-get-head : tie.After-get-head Inv-loop μ-loop = search in
-    let at-loop : tie.At-loop Inv-loop μ-loop = search in
-    let in-loop : tie.In-loop Inv-loop μ-loop = search in
-    let after-mark-neighbour : tie.After-mark-neighbour Inv-loop μ-loop = search in
-    marked-found (start .args .triangles .now)
-    (start .args .s .now)
-    (start .args .v)
-    (after-get-count .get-count .result)
-    (after-get-head .get-head .result)
-    (at-loop .loop .s) (after-mark-neighbour .mark-neighbour .last .1 .0) (at-loop .loop .e)
-    (at-loop .loop .i) (after-mark-neighbour .mark-neighbour .result)
-    (after-get-count .get-count .ensures .0)
-    (after-get-head .get-head .ensures .0)
-    (in-loop .loop-test .taken) (c .if1 .taken) (after-mark-neighbour .mark-neighbour .ensures)
-    (at-loop .loop .inv)
+returns c = search marked-found
 
 get-op-requires : tie.Need-get-op-requires Inv-loop μ-loop
 get-op-requires c κs = tt
 
 add-i : tie.Need-add-i Inv-loop μ-loop
-add-i c =
-    let after-get-count : tie.After-get-count Inv-loop μ-loop = search in
-    let in-loop : tie.In-loop Inv-loop μ-loop = search in
-    omega (
-      arith,
-      in-loop .loop-test .taken,
-      after-get-count .get-count .ensures .1,
-    )
+add-i c = omega arith
 
 loop-less : tie.Need-loop-less Inv-loop μ-loop
-loop-less c =
-    let in-loop : tie.In-loop Inv-loop μ-loop = search in
-    omega (arith, in-loop .loop-test .taken)
+loop-less c = omega arith
 
 loop-again : tie.Need-loop-again Inv-loop μ-loop
-loop-again c =
-    let start : tie.Start Inv-loop μ-loop = search in
-    let after-get-count : tie.After-get-count Inv-loop μ-loop = search in
-    let after-get-head : tie.After-get-head Inv-loop μ-loop = search in
-    let at-loop : tie.At-loop Inv-loop μ-loop = search in
-    let in-loop : tie.In-loop Inv-loop μ-loop = search in
-    let after-mark-neighbour : tie.After-mark-neighbour Inv-loop μ-loop = search in
-    let else1 : tie.Else1 Inv-loop μ-loop = search in
-    marking-next (start .args .triangles .now)
-    (start .args .s .now)
-    (start .args .v)
-    (after-get-count .get-count .result)
-    (after-get-head .get-head .result)
-    (at-loop .loop .s) (after-mark-neighbour .mark-neighbour .last .1 .0)
-    (at-loop .loop .e) (c .get-op .result)
-    (at-loop .loop .i) (after-mark-neighbour .mark-neighbour .result)
-    (in-loop .loop-test .taken) (else1 .if1 .left)
-    (after-mark-neighbour .mark-neighbour .kept .1 .0) (after-mark-neighbour .mark-neighbour .ensures) (c .get-op .ensures .0)
-    (c .get-op .ensures .1) (at-loop .loop .inv)
+loop-again c = search marking-next
 
 same-length-2 : tie.Need-same-length-2 Inv-loop μ-loop
-same-length-2 c = c .before .loop .inv .long
+same-length-2 c = omega arith
 
 returns-2 : tie.Need-returns-2 Inv-loop μ-loop
-returns-2 c =
-    let start : tie.Start Inv-loop μ-loop = search in
-    let after-get-count : tie.After-get-count Inv-loop μ-loop = search in
-    let after-get-head : tie.After-get-head Inv-loop μ-loop = search in
-    marked-none (start .args .triangles .now)
-    (start .args .s .now)
-    (start .args .v) (after-get-count .get-count .result)
-    (after-get-head .get-head .result)
-    (c .before .loop .s) (c .before .loop .e) (c .before .loop .i) (after-get-count .get-count .ensures .0)
-    (after-get-head .get-head .ensures .0) (c .loop-test .left) (c .before .loop .inv)
+returns-2 c = search marked-none
 
 pub mark-outgoing-spec : {M : Type 1} → statement M
 mark-outgoing-spec =

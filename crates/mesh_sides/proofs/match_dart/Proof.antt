@@ -9,15 +9,13 @@ origin-requires : tie.Need-origin-requires
 origin-requires c κs = search needs
 
 mul-get-mark : tie.Need-mul-get-mark
-mul-get-mark c = omega (arith, c .before .origin .ensures .1)
+mul-get-mark c = omega arith
 
 get-mark-requires : tie.Need-get-mark-requires
 get-mark-requires c κs = search needs
 
 add-if2 : tie.Need-add-if2
-add-if2 c =
-    let start : tie.Start = search in
-    omega (arith, start .pre .small)
+add-if2 c = omega arith
 
 set-op-requires : tie.Need-set-op-requires
 set-op-requires c κs =
@@ -32,38 +30,16 @@ same-length : tie.Need-same-length
 same-length c = search needs
 
 returns : tie.Need-returns
-returns c =
-    let start : tie.Start = search in
-    let then1 : tie.Then1 = search in
-    let after-origin : tie.After-origin = search in
-    let after-get-mark : tie.After-get-mark = search in
-    let then2 : tie.Then2 = search in
-    met-one (start .args .triangles .now)
-    (start .args .s .now)
-    (start .args .v)
-    (start .args .e) (after-origin .origin .result)
-    (after-get-mark .get-mark .result) (then1 .if1 .taken)
-    (after-origin .origin .ensures .0) (after-get-mark .get-mark .ensures .0)
-    (c .before .set-op .last .0) (then2 .if2 .taken) (c .before .set-op .ensures)
+returns c = search met-one
 
 same-length-2 : tie.Need-same-length-2
 same-length-2 c = search needs
 
 returns-2 : tie.Need-returns-2
-returns-2 c =
-    let start : tie.Start = search in
-    let then1 : tie.Then1 = search in
-    let after-origin : tie.After-origin = search in
-    met-none (start .args .triangles .now)
-    (start .args .s .now) (start .args .v)
-    (start .args .e) (after-origin .origin .result) (c .before .get-mark .result)
-    (then1 .if1 .taken) (after-origin .origin .ensures .0) (c .before .get-mark .ensures .0) (c .if2 .left)
+returns-2 c = search met-none
 
 returns-3 : tie.Need-returns-3
-returns-3 c =
-    let start : tie.Start = search in
-    met-past (start .args .triangles .now) (start .args .s .now) (start .args .v) (start .args .e)
-    (c .if1 .left)
+returns-3 c = search met-past
 
 pub match-dart-spec : {M : Type 1} → statement M
 match-dart-spec =

@@ -16,13 +16,12 @@ abbrev μ-loop : tie.MeasureT-loop
 μ-loop n triangles s₀ v₀ s v = n - v
 
 loop-holds : tie.Need-loop-holds Inv-loop μ-loop
-loop-holds c = matching-start (c .before .args .triangles .now) (c .before .args .n) (c .before .args .s .now)
+loop-holds c = search matching-start
 
 mark-outgoing-requires : tie.Need-mark-outgoing-requires Inv-loop μ-loop
-mark-outgoing-requires c κs =
-    let start : tie.Start Inv-loop μ-loop = search in
+mark-outgoing-requires c κs = let start : tie.Start Inv-loop μ-loop = search in
     let at-loop : tie.At-loop Inv-loop μ-loop = search in (
-      ready-at (at-loop .loop .s) (at-loop .loop .v) (start .pre) (c .before .loop-test .taken)
+      ready-at (at-loop .loop .s) (at-loop .loop .v) (start .pre) (search)
           (at-loop .loop .inv .long),
       rw (both-heads (start .args .s .now) (at-loop .loop .s) (tablesOf (at-loop .loop .s) .op)
           (tablesOf (at-loop .loop .s) .mark) (at-loop .loop .inv .same))
@@ -30,22 +29,10 @@ mark-outgoing-requires c κs =
     )
 
 same-length : tie.Need-same-length Inv-loop μ-loop
-same-length c =
-    let at-loop : tie.At-loop Inv-loop μ-loop = search in
-    let after-mark-outgoing : tie.After-mark-outgoing Inv-loop μ-loop = search in
-    after-mark-outgoing .mark-outgoing .kept .1 .0 ∙ at-loop .loop .inv .long
+same-length c = omega arith
 
 returns : tie.Need-returns Inv-loop μ-loop
-returns c =
-    let start : tie.Start Inv-loop μ-loop = search in
-    let at-loop : tie.At-loop Inv-loop μ-loop = search in
-    let in-loop : tie.In-loop Inv-loop μ-loop = search in
-    let after-mark-outgoing : tie.After-mark-outgoing Inv-loop μ-loop = search in
-    matching-twice (start .args .triangles .now)
-    (start .args .n) (start .args .s .now)
-    (at-loop .loop .s) (after-mark-outgoing .mark-outgoing .last .1 .0) (at-loop .loop .v)
-    (in-loop .loop-test .taken) (at-loop .loop .inv)
-    (after-mark-outgoing .mark-outgoing .result) (c .if1 .taken) (after-mark-outgoing .mark-outgoing .last .1 .0) (after-mark-outgoing .mark-outgoing .ensures)
+returns c = search matching-twice
 
 match-incoming-requires : tie.Need-match-incoming-requires Inv-loop μ-loop
 match-incoming-requires c κs =
@@ -91,90 +78,22 @@ duplicate-side-requires c κs =
     (at-loop .loop .inv .same))
 
 same-length-2 : tie.Need-same-length-2 Inv-loop μ-loop
-same-length-2 c =
-    let at-loop : tie.At-loop Inv-loop μ-loop = search in
-    let after-mark-outgoing : tie.After-mark-outgoing Inv-loop μ-loop = search in
-    let after-match-incoming : tie.After-match-incoming Inv-loop μ-loop = search in
-    let after-duplicate-side : tie.After-duplicate-side Inv-loop μ-loop = search in
-    after-duplicate-side .duplicate-side .kept .1 .1 .0 ∙ after-match-incoming .match-incoming .kept .1 .0
-    ∙ after-mark-outgoing .mark-outgoing .kept .1 .0
-    ∙ at-loop .loop .inv .long
+same-length-2 c = omega arith
 
 returns-2 : tie.Need-returns-2 Inv-loop μ-loop
-returns-2 c =
-    let start : tie.Start Inv-loop μ-loop = search in
-    let at-loop : tie.At-loop Inv-loop μ-loop = search in
-    let in-loop : tie.In-loop Inv-loop μ-loop = search in
-    let after-mark-outgoing : tie.After-mark-outgoing Inv-loop μ-loop = search in
-    let else1 : tie.Else1 Inv-loop μ-loop = search in
-    let after-match-incoming : tie.After-match-incoming Inv-loop μ-loop = search in
-    let then2 : tie.Then2 Inv-loop μ-loop = search in
-    let after-duplicate-side : tie.After-duplicate-side Inv-loop μ-loop = search in
-    matching-later
-    (start .args .triangles .now)
-    (start .args .n)
-    (start .args .s .now)
-    (at-loop .loop .s)
-    (after-mark-outgoing .mark-outgoing .last .1 .0)
-    (at-loop .loop .v)
-    (in-loop .loop-test .taken)
-    (at-loop .loop .inv)
-    (after-mark-outgoing .mark-outgoing .result)
-    (else1 .if1 .left)
-    (after-mark-outgoing .mark-outgoing .ensures)
-    (after-match-incoming .match-incoming .last .1 .0)
-    (after-match-incoming .match-incoming .result)
-    (after-match-incoming .match-incoming .ensures) (then2 .if2 .taken)
-    (after-duplicate-side .duplicate-side .last .1 .1 .0) (after-duplicate-side .duplicate-side .result) (after-duplicate-side .duplicate-side .ensures)
-    (c .if3 .taken) (after-duplicate-side .duplicate-side .last .1 .1 .0)
+returns-2 c = search matching-later
 
 same-length-3 : tie.Need-same-length-3 Inv-loop μ-loop
-same-length-3 c =
-    let at-loop : tie.At-loop Inv-loop μ-loop = search in
-    let after-mark-outgoing : tie.After-mark-outgoing Inv-loop μ-loop = search in
-    let after-match-incoming : tie.After-match-incoming Inv-loop μ-loop = search in
-    let after-duplicate-side : tie.After-duplicate-side Inv-loop μ-loop = search in
-    after-duplicate-side .duplicate-side .kept .1 .1 .0 ∙ after-match-incoming .match-incoming .kept .1 .0
-    ∙ after-mark-outgoing .mark-outgoing .kept .1 .0
-    ∙ at-loop .loop .inv .long
+same-length-3 c = omega arith
 
 returns-3 : tie.Need-returns-3 Inv-loop μ-loop
-returns-3 c =
-    let start : tie.Start Inv-loop μ-loop = search in
-    let at-loop : tie.At-loop Inv-loop μ-loop = search in
-    let in-loop : tie.In-loop Inv-loop μ-loop = search in
-    let after-mark-outgoing : tie.After-mark-outgoing Inv-loop μ-loop = search in
-    let else1 : tie.Else1 Inv-loop μ-loop = search in
-    let after-match-incoming : tie.After-match-incoming Inv-loop μ-loop = search in
-    let then2 : tie.Then2 Inv-loop μ-loop = search in
-    let after-duplicate-side : tie.After-duplicate-side Inv-loop μ-loop = search in
-    matching-lacks
-    (start .args .triangles .now)
-    (start .args .n)
-    (start .args .s .now)
-    (at-loop .loop .s)
-    (after-mark-outgoing .mark-outgoing .last .1 .0)
-    (at-loop .loop .v)
-    (in-loop .loop-test .taken)
-    (at-loop .loop .inv)
-    (after-mark-outgoing .mark-outgoing .result)
-    (else1 .if1 .left)
-    (after-mark-outgoing .mark-outgoing .ensures)
-    (after-match-incoming .match-incoming .last .1 .0)
-    (after-match-incoming .match-incoming .result)
-    (after-match-incoming .match-incoming .ensures) (then2 .if2 .taken)
-    (after-duplicate-side .duplicate-side .last .1 .1 .0) (after-duplicate-side .duplicate-side .result) (after-duplicate-side .duplicate-side .ensures)
-    (c .if3 .left) (after-duplicate-side .duplicate-side .last .1 .1 .0)
+returns-3 c = search matching-lacks
 
 add-v : tie.Need-add-v Inv-loop μ-loop
-add-v c =
-    let in-loop : tie.In-loop Inv-loop μ-loop = search in
-    omega (arith, in-loop .loop-test .taken)
+add-v c = omega arith
 
 loop-less : tie.Need-loop-less Inv-loop μ-loop
-loop-less c =
-    let in-loop : tie.In-loop Inv-loop μ-loop = search in
-    omega (arith, in-loop .loop-test .taken)
+loop-less c = omega arith
 
 loop-again : tie.Need-loop-again Inv-loop μ-loop
 loop-again c =
@@ -198,13 +117,10 @@ loop-again c =
     (after-match-incoming .match-incoming .kept .1 .0 ∙ after-mark-outgoing .mark-outgoing .kept .1 .0)
 
 same-length-4 : tie.Need-same-length-4 Inv-loop μ-loop
-same-length-4 c = c .before .loop .inv .long
+same-length-4 c = omega arith
 
 returns-4 : tie.Need-returns-4 Inv-loop μ-loop
-returns-4 c =
-    let start : tie.Start Inv-loop μ-loop = search in
-    matching-none (start .args .triangles .now) (start .args .n) (start .args .s .now)
-    (c .before .loop .s) (c .before .loop .v) (c .loop-test .left) (c .before .loop .inv)
+returns-4 c = search matching-none
 
 pub match-sides-spec : {M : Type 1} → statement M
 match-sides-spec =

@@ -18,13 +18,10 @@ prev-dart-requires : tie.Need-prev-dart-requires
 prev-dart-requires c κs = search needs
 
 prev-dart-requires-2 : tie.Need-prev-dart-requires-2
-prev-dart-requires-2 c κs =
-    let after-get-head : tie.After-get-head = search in
-    after-get-head .get-head .ensures .1
+prev-dart-requires-2 c κs = omega arith
 
 set-op-requires : tie.Need-set-op-requires
-set-op-requires c κs =
-    let start : tie.Start = search in
+set-op-requires c κs = let start : tie.Start = search in
     let after-origin : tie.After-origin = search in
     let after-get-head : tie.After-get-head = search in (
       omega (
@@ -34,7 +31,7 @@ set-op-requires c κs =
             (start .args .d)
             (start .pre .dart),
       ),
-      prev-small (after-get-head .get-head .result) (c .prev-dart2 .result) (c .prev-dart2 .ensures)
+      prev-small (after-get-head .get-head .result) _ (search)
           (omega (
             arith,
             after-get-head .get-head .ensures .0,
@@ -64,9 +61,7 @@ set-head-requires c κs =
     )
 
 add-set-count : tie.Need-add-set-count
-add-set-count c =
-    let after-get-count : tie.After-get-count = search in
-    omega (arith, after-get-count .get-count .ensures .1)
+add-set-count c = omega arith
 
 set-count-requires : tie.Need-set-count-requires
 set-count-requires c κs =
@@ -96,20 +91,7 @@ same-length : tie.Need-same-length
 same-length c = search needs
 
 returns : tie.Need-returns
-returns c =
-    pushed (c .before .before .before .before .before .before .before .before .before .before .before .before .before .before .before .before .before .args .triangles .now) (c .before .before .before .before .before .before .before .before .before .before .before .before .before .before .before .before .before .args .d) (c .before .before .before .before .before .before .before .before .before .before .before .before .before .before .before .before .before .args .s .now) (c .before .before .before .before .before .before .before .set-op .last .0) (c .before .before .before .before .set-head .last .0) (c .before .set-count .last .0)
-    (c .before .before .before .before .before .before .before .before .before .before .before .before .before .before .before .origin .result)
-    (c .before .before .before .before .before .before .before .before .before .prev-dart .result)
-    (c .before .before .before .before .before .before .before .before .before .before .before .before .before .get-head .result)
-    (c .before .before .before .before .before .before .before .before .prev-dart2 .result)
-    (c .before .before .before .before .before .before .before .before .before .before .before .get-count .result)
-    (c .before .before .before .before .before .before .before .before .before .before .before .before .before .before .before .origin .ensures .0)
-    (c .before .before .before .before .before .before .before .before .before .prev-dart .ensures)
-    (c .before .before .before .before .before .before .before .before .before .before .before .before .before .get-head .ensures .0)
-    (c .before .before .before .before .before .before .before .before .prev-dart2 .ensures)
-    (c .before .before .before .before .before .before .before .before .before .before .before .get-count .ensures .0)
-    (c .before .before .before .before .before .before .before .set-op .ensures) (c .before .before .before .before .set-head .ensures)
-    (c .before .set-count .ensures)
+returns c = search pushed
 
 pub push-dart-spec : {M : Type 1} → statement M
 push-dart-spec =

@@ -16,51 +16,39 @@ abbrev μ-loop : tie.MeasureT-loop
 μ-loop triangles d₀ d = length triangles - d
 
 loop-holds : tie.Need-loop-holds Inv-loop μ-loop
-loop-holds c = (omega arith, seeking-start (loops (c .before .args .triangles .now)) (length (c .before .args .triangles .now)))
+loop-holds c = search (seeking-start, loops)
 
 repeated-at-requires : tie.Need-repeated-at-requires Inv-loop μ-loop
-repeated-at-requires c κs =
-    let start : tie.Start Inv-loop μ-loop = search in
-    (c .before .loop .inv .0, omega (arith, c .loop-test .taken, start .pre .1))
+repeated-at-requires c κs = omega arith
 
 returns : tie.Need-returns Inv-loop μ-loop
 unfolding row4 darts
-returns c =
-    let start : tie.Start Inv-loop μ-loop = search in
+returns c = let start : tie.Start Inv-loop μ-loop = search in
     let at-loop : tie.At-loop Inv-loop μ-loop = search in
     let in-loop : tie.In-loop Inv-loop μ-loop = search in
     three-found (start .args .triangles .now) (at-loop .loop .d)
     (omega (arith, in-loop .loop-test .taken, start .pre .0, at-loop .loop .inv .0))
-    (at-loop .loop .inv .1) (sym (c .before .repeated-at .ensures) ∙ c .if1 .taken)
+    (at-loop .loop .inv .1) (sym (search) ∙ c .if1 .taken)
 
 add-d : tie.Need-add-d Inv-loop μ-loop
-add-d c =
-    let start : tie.Start Inv-loop μ-loop = search in
-    let in-loop : tie.In-loop Inv-loop μ-loop = search in
-    omega (arith, in-loop .loop-test .taken, start .pre .1)
+add-d c = omega arith
 
 loop-less : tie.Need-loop-less Inv-loop μ-loop
-loop-less c =
-    let in-loop : tie.In-loop Inv-loop μ-loop = search in
-    omega (arith, in-loop .loop-test .taken)
+loop-less c = omega arith
 
 loop-again : tie.Need-loop-again Inv-loop μ-loop
-loop-again c =
-    let start : tie.Start Inv-loop μ-loop = search in
+loop-again c = let start : tie.Start Inv-loop μ-loop = search in
     let at-loop : tie.At-loop Inv-loop μ-loop = search in
     let in-loop : tie.In-loop Inv-loop μ-loop = search in (
       omega (arith, at-loop .loop .inv .0),
       three-next (start .args .triangles .now) (at-loop .loop .d)
           (omega (arith, in-loop .loop-test .taken, start .pre .0, at-loop .loop .inv .0))
-          (at-loop .loop .inv .1) (sym (c .before .repeated-at .ensures) ∙ c .if1 .left),
+          (at-loop .loop .inv .1) (sym (search) ∙ c .if1 .left),
     )
 
 returns-2 : tie.Need-returns-2 Inv-loop μ-loop
 unfolding row4 darts
-returns-2 c =
-    let start : tie.Start Inv-loop μ-loop = search in
-    seeking-end (loops (start .args .triangles .now)) (length (start .args .triangles .now))
-    (c .before .loop .d) (c .loop-test .left) (c .before .loop .inv .1)
+returns-2 c = search (seeking-end, loops)
 
 pub repeated-vertex-spec : {M : Type 1} → statement M
 repeated-vertex-spec =

@@ -29,7 +29,8 @@ repair-labelled-requires c κs =
     let light : tie.Else1 = search in
     let A = labelled-accepted _ _ (labelled .label-mesh .last .1 .1 .0) (labelled .label-mesh .result) (accepted .enum-told .given .1)
     (labelled .label-mesh .ensures) in
-    startable _ _ _ _ (start .args .scratch .now) _ (start .pre) (labelled .label-mesh .kept .1 .1 .0) (sym (past .past-limit .ensures) ∙ light .if1 .left) (A .1)
+    startable _ _ _ _ (start .args .scratch .now) _ (start .pre) (labelled .label-mesh .kept .1 .1 .0) (sym (past .past-limit .ensures) ∙ light .if1 .left)
+    (A .1)
 
 returns-3 : tie.Need-returns-3
 returns-3 c =

@@ -2,8 +2,8 @@
 -- nothing.
 use borrow.Author.Needs.{needs}
 use native.Mathlib.Omega.{arith}
-use mathlib.Core.Path.{_≡_, subst}
-use Prim.Native.Nat.{ℕ, _-_, _*_, _≤_, _<_}
+use mathlib.Core.Path.{_≡_}
+use Prim.Native.Nat.{_-_, _*_, _≤_, _<_}
 use lib.ListN.{length}
 use Rattle.scratch_tables.specs.Tables.{tablesOf}
 use Rattle.repair_words.specs.LoopInvariants.{TrianglesPacked, walks-next}
@@ -23,8 +23,7 @@ returns : tie.Need-returns Inv-loop μ-loop
 returns c =
     let start : tie.Start Inv-loop μ-loop = search in
     let a = start .args in
-    let e : c .before .loop .t ≡ 2 * a .n - 4 = omega (arith, c .loop-test .left, c .before .loop .inv .1) in
-    subst (λ (m : ℕ). TrianglesPacked (a .n) (a .triangles .now) (tablesOf (a .scratch .now)) (tablesOf (c .before .loop .scratch)) m) e (c .before .loop .inv .3)
+    let e : c .before .loop .t ≡ 2 * a .n - 4 = omega arith in rw e at (c .before .loop .inv .3)
 
 pub pack-triangles-spec : {M : Type 1} → statement M
 pack-triangles-spec =

@@ -11,9 +11,7 @@ same-length : tie.Need-same-length
 same-length c = search needs
 
 returns : tie.Need-returns
-returns c =
-    let start : tie.Start = search in
-    cleared-all (start .args .s .now) (c .before .clear-from .last .0) (c .before .clear-from .ensures)
+returns c = search cleared-all
 
 pub clear-spec : {M : Type 1} → statement M
 clear-spec = tie.close (tie.spec clear-from-requires same-length returns)

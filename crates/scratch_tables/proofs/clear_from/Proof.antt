@@ -1,4 +1,5 @@
 -- `scratch_tables::clear_from` meets its contract. The loop's invariant: the words passed are zero, and those before stand as they did. Assumes nothing.
+use borrow.Author.Needs.{needs}
 use native.Mathlib.Omega.{arith}
 use Prim.Native.Nat.{_-_, _≤_}
 use lib.ListN.{length, length-set}
@@ -28,21 +29,13 @@ loop-less : tie.Need-loop-less Inv-loop μ-loop
 loop-less c = simp length-set (omega arith)
 
 loop-again : tie.Need-loop-again Inv-loop μ-loop
-loop-again c =
-    let start : tie.Start Inv-loop μ-loop = search in (
-      cleared-more (start .args .s .now) (c .before .loop .s) (start .args .k) (c .before .loop .i)
-          (c .before .loop .inv .1) (c .loop-test .taken) (c .before .loop .inv .0),
-      omega (arith, c .before .loop .inv .1),
-    )
+loop-again c = search (cleared-more, needs)
 
 same-length : tie.Need-same-length Inv-loop μ-loop
-same-length c = c .before .loop .inv .0 .long
+same-length c = omega arith
 
 returns : tie.Need-returns Inv-loop μ-loop
-returns c =
-    let start : tie.Start Inv-loop μ-loop = search in
-    cleared-end (start .args .s .now) (c .before .loop .s) (start .args .k) (c .before .loop .i) (c .loop-test .left)
-    (c .before .loop .inv .0)
+returns c = search cleared-end
 
 pub clear-from-spec : {M : Type 1} → statement M
 clear-from-spec =

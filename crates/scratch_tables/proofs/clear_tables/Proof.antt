@@ -14,9 +14,7 @@ same-length : tie.Need-same-length
 same-length c = search needs
 
 returns : tie.Need-returns
-returns c =
-    let start : tie.Start = search in
-    cleared-tables (start .args .s .now) (c .before .clear-from .last .0) (c .before .clear-from .ensures)
+returns c = search cleared-tables
 
 pub clear-tables-spec : {M : Type 1} → statement M
 clear-tables-spec = tie.close (tie.spec mul-clear-from clear-from-requires same-length returns)

@@ -1,6 +1,4 @@
 -- `scratch_tables::get_head` meets its contract, from that of `load`. Past the table both sides are 0. Assumes nothing.
-use native.Mathlib.Omega.{arith}
-use mathlib.Core.Path.{sym, _∙_}
 use Rattle.scratch_tables.specs.Tables.{head-in, head-past}
 use borrow.Author.Needs.{needs}
 use Rattle.scratch_tables.proofs.get_head.Statement.{statement}
@@ -16,12 +14,10 @@ load-requires : tie.Need-load-requires
 load-requires c κs = search needs
 
 returns : tie.Need-returns
-returns c =
-    let start : tie.Start = search in
-    (c .load .ensures .0 ∙ sym (head-in (start .args .s .now) (start .args .v) (c .before .if1 .taken)), c .load .ensures .1)
+returns c = search head-in
 
 returns-2 : tie.Need-returns-2
-returns-2 c = (head-past (c .before .args .s .now) (c .before .args .v) (c .if1 .left), omega arith)
+returns-2 c = search (head-past, needs)
 
 pub get-head-spec : {M : Type 1} → statement M
 get-head-spec = tie.close (tie.spec mul-load add-load load-requires returns returns-2)

@@ -14,21 +14,19 @@ mark-index-requires : tie.Need-mark-index-requires
 mark-index-requires c κs = search needs
 
 load-requires : tie.Need-load-requires
-load-requires c κs =
-    let start : tie.Start = search in
-    omega (arith, c .mark-index .ensures, mark-index (length (start .args .s .now)) (start .args .t) (c .before .if1 .taken))
+load-requires c κs = let start : tie.Start = search in
+    omega (arith, c .mark-index .ensures, mark-index (length (start .args .s .now)) (start .args .t) (search))
 
 returns : tie.Need-returns
-returns c =
-    let start : tie.Start = search in
+returns c = let start : tie.Start = search in
     let then1 : tie.Then1 = search in (
-      c .load .ensures .0 ∙ ap (wordAt (start .args .s .now)) (c .before .mark-index .ensures)
+      c .load .ensures .0 ∙ ap (wordAt (start .args .s .now)) (search)
           ∙ sym (mark-in (start .args .s .now) (start .args .t) (then1 .if1 .taken)),
       c .load .ensures .1,
     )
 
 returns-2 : tie.Need-returns-2
-returns-2 c = (mark-past (c .before .args .s .now) (c .before .args .t) (c .if1 .left), omega arith)
+returns-2 c = search (mark-past, needs)
 
 pub get-mark-spec : {M : Type 1} → statement M
 get-mark-spec = tie.close (tie.spec mul-if1 mark-index-requires load-requires returns returns-2)

@@ -1,6 +1,4 @@
 -- `scratch_tables::get_op` meets its contract, from that of `load`. Past the table both sides are 0. Assumes nothing.
-use native.Mathlib.Omega.{arith}
-use mathlib.Core.Path.{sym, _∙_}
 use Rattle.scratch_tables.specs.Tables.{op-in, op-past}
 use borrow.Author.Needs.{needs}
 use Rattle.scratch_tables.proofs.get_op.Statement.{statement}
@@ -13,12 +11,10 @@ load-requires : tie.Need-load-requires
 load-requires c κs = search needs
 
 returns : tie.Need-returns
-returns c =
-    let start : tie.Start = search in
-    (c .load .ensures .0 ∙ sym (op-in (start .args .s .now) (start .args .d) (c .before .if1 .taken)), c .load .ensures .1)
+returns c = search op-in
 
 returns-2 : tie.Need-returns-2
-returns-2 c = (op-past (c .before .args .s .now) (c .before .args .d) (c .if1 .left), omega arith)
+returns-2 c = search (op-past, needs)
 
 pub get-op-spec : {M : Type 1} → statement M
 get-op-spec = tie.close (tie.spec mul-if1 load-requires returns returns-2)

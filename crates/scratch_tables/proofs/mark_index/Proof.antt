@@ -1,5 +1,4 @@
 -- `scratch_tables::mark_index` meets its contract, case by case. Assumes nothing.
-use mathlib.Core.Path.{sym}
 use Rattle.scratch_tables.specs.Tables.{mark-even, mark-odd}
 use borrow.Author.Needs.{needs}
 use Rattle.scratch_tables.proofs.mark_index.Statement.{statement}
@@ -18,10 +17,10 @@ add-result-2 : tie.Need-add-result-2
 add-result-2 c = search needs
 
 returns : tie.Need-returns
-returns c = sym (mark-even (c .before .args .c) (c .before .args .t) (c .if1 .taken))
+returns c = search mark-even
 
 returns-2 : tie.Need-returns-2
-returns-2 c = sym (mark-odd (c .before .args .c) (c .before .args .t) (c .if1 .left))
+returns-2 c = search mark-odd
 
 pub mark-index-spec : {M : Type 1} → statement M
 mark-index-spec =

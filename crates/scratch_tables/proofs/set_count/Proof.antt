@@ -18,9 +18,8 @@ same-length : tie.Need-same-length
 same-length c = search needs
 
 returns : tie.Need-returns
-returns c =
-    let start : tie.Start = search in
-    ap tablesOf (c .before .store .ensures) ∙ tablesOf-count (start .args .s .now) (start .args .v)
+returns c = let start : tie.Start = search in
+    ap tablesOf (search) ∙ tablesOf-count (start .args .s .now) (start .args .v)
     (start .args .x) (start .pre .0)
 
 pub set-count-spec : {M : Type 1} → statement M

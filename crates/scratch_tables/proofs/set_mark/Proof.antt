@@ -23,10 +23,9 @@ same-length : tie.Need-same-length
 same-length c = search needs
 
 returns : tie.Need-returns
-returns c =
-    let start : tie.Start = search in
+returns c = let start : tie.Start = search in
     let after-mark-index : tie.After-mark-index = search in
-    ap tablesOf (c .before .store .ensures) ∙ ap (λ (k : ℕ). tablesOf
+    ap tablesOf (search) ∙ ap (λ (k : ℕ). tablesOf
     (set (start .args .s .now) k (pos (start .args .x)))) (after-mark-index .mark-index .ensures)
     ∙ tablesOf-mark (start .args .s .now) (start .args .t)
     (start .args .x) (start .pre .0)

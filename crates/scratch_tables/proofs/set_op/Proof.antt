@@ -12,9 +12,8 @@ same-length : tie.Need-same-length
 same-length c = search needs
 
 returns : tie.Need-returns
-returns c =
-    let start : tie.Start = search in
-    ap tablesOf (c .before .store .ensures) ∙ tablesOf-op (start .args .s .now) (start .args .d)
+returns c = let start : tie.Start = search in
+    ap tablesOf (search) ∙ tablesOf-op (start .args .s .now) (start .args .d)
     (start .args .x) (start .pre .0)
 
 pub set-op-spec : {M : Type 1} → statement M

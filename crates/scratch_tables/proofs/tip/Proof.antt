@@ -12,7 +12,7 @@ origin-requires c κs = search needs
 
 returns : tie.Need-returns
 unfolding tip
-returns c = (rw (← c .before .next-dart .ensures) (c .origin .ensures .0), c .origin .ensures .1)
+returns c = (rw (← c .before .next-dart .ensures) (search), c .origin .ensures .1)
 
 pub tip-spec : {M : Type 1} → statement M
 tip-spec = tie.close (tie.spec next-dart-requires origin-requires returns)

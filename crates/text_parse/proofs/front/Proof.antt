@@ -1,6 +1,4 @@
 -- `text_parse::front` meets its contract. The part that is lent is the first bytes. Assumes nothing.
-use mathlib.Core.Path.{sym}
-use native.Mathlib.Omega.{arith}
 use native.Mathlib.Nat.{le-of-lt}
 use lib.Seq.{length-take-le, take-all}
 use borrow.Author.Needs.{needs}
