@@ -22,9 +22,6 @@ add-label-of c =
     let start : tie.Start Inv-loop μ-loop = search in
     omega (arith, c .loop-test .taken, c .before .loop .inv .long, start .good .1 .0 .1)
 
-label-of-requires : tie.Need-label-of-requires Inv-loop μ-loop
-label-of-requires c κs = search needs
-
 cast-labels : tie.Need-cast-labels Inv-loop μ-loop
 cast-labels c =
     let start : tie.Start Inv-loop μ-loop = search in
@@ -35,12 +32,6 @@ cast-labels c =
       start .pre (at-loop .loop .i)
           (omega (arith, c .before .loop-test .taken, at-loop .loop .inv .long)),
     )
-
-slice-write-labels : tie.Need-slice-write-labels Inv-loop μ-loop
-slice-write-labels c = search needs
-
-add-i : tie.Need-add-i Inv-loop μ-loop
-add-i c = search needs
 
 loop-less : tie.Need-loop-less Inv-loop μ-loop
 loop-less c =
@@ -68,10 +59,10 @@ write-labels-spec =
     μ-loop
     loop-holds
     add-label-of
-    label-of-requires
+    (λ c κs. search needs)
     cast-labels
-    slice-write-labels
-    add-i
+    (λ c. search needs)
+    (λ c. search needs)
     loop-less
     loop-again
     same-length

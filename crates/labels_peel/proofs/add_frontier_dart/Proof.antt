@@ -11,11 +11,8 @@ set-count-requires c κs = omega arith
 set-head-requires : tie.Need-set-head-requires
 set-head-requires c κs = omega arith
 
-same-length : tie.Need-same-length
-same-length c = search needs
-
 returns : tie.Need-returns
 returns c = search border-is
 
 pub add-frontier-dart-spec : {M : Type 1} → statement M
-add-frontier-dart-spec = tie.close (tie.spec set-count-requires set-head-requires same-length returns)
+add-frontier-dart-spec = tie.close (tie.spec set-count-requires set-head-requires (λ c. search needs) returns)

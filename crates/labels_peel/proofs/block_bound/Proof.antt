@@ -4,14 +4,8 @@ use borrow.Author.Needs.{needs}
 use Rattle.labels_peel.proofs.block_bound.Statement.{statement}
 use Rattle.labels_peel.proofs.block_bound.Tie as tie
 
-mul-get-mark : tie.Need-mul-get-mark
-mul-get-mark c = search needs
-
-get-mark-requires : tie.Need-get-mark-requires
-get-mark-requires c κs = search needs
-
 returns : tie.Need-returns
 returns c = search (low-is, low-small)
 
 pub block-bound-spec : {M : Type 1} → statement M
-block-bound-spec = tie.close (tie.spec mul-get-mark get-mark-requires returns)
+block-bound-spec = tie.close (tie.spec (λ c. search needs) (λ c κs. search needs) returns)

@@ -16,14 +16,8 @@ increment-degree-requires c κs =
 add-result : tie.Need-add-result
 add-result c = omega arith
 
-same-length : tie.Need-same-length
-same-length c = search needs
-
 returns : tie.Need-returns
 returns c = search (meet-on, needs)
-
-same-length-2 : tie.Need-same-length-2
-same-length-2 c = search needs
 
 returns-2 : tie.Need-returns-2
 returns-2 c = search (meet-off, needs)
@@ -35,7 +29,7 @@ count-neighbour-spec =
     frontier-degree-requires
     increment-degree-requires
     add-result
-    same-length
+    (λ c. search needs)
     returns
-    same-length-2
+    (λ c. search needs)
     returns-2)

@@ -11,17 +11,8 @@ Inv-loop triangles s₀ first d₀ c₀ k₀ s d c k = Rounding triangles first 
 abbrev μ-loop : tie.MeasureT-loop
 μ-loop triangles s₀ first d₀ c₀ k₀ s d c k = k
 
-loop-holds : tie.Need-loop-holds Inv-loop μ-loop
-loop-holds c = search needs
-
 prev-dart-requires : tie.Need-prev-dart-requires Inv-loop μ-loop
 prev-dart-requires c κs = omega arith
-
-opposite-requires : tie.Need-opposite-requires Inv-loop μ-loop
-opposite-requires c κs = search needs
-
-origin-requires : tie.Need-origin-requires Inv-loop μ-loop
-origin-requires c κs = search needs
 
 count-neighbour-requires : tie.Need-count-neighbour-requires Inv-loop μ-loop
 count-neighbour-requires c κs = search (holds-kept, org-holds, needs)
@@ -53,10 +44,10 @@ count-neighbours-spec =
     (tie.spec
     Inv-loop
     μ-loop
-    loop-holds
+    (λ c. search needs)
     prev-dart-requires
-    opposite-requires
-    origin-requires
+    (λ c κs. search needs)
+    (λ c κs. search needs)
     count-neighbour-requires
     same-length
     returns

@@ -17,14 +17,8 @@ set-degree-requires c κs = omega arith
 set-degree-requires-2 : tie.Need-set-degree-requires-2
 set-degree-requires-2 c κs = omega arith
 
-same-length : tie.Need-same-length
-same-length c = search needs
-
 returns : tie.Need-returns
 returns c = search less-down
-
-same-length-2 : tie.Need-same-length-2
-same-length-2 c = search needs
 
 returns-2 : tie.Need-returns-2
 returns-2 c = search less-none
@@ -37,7 +31,7 @@ decrement-degree-spec =
     sub-set-degree
     set-degree-requires
     set-degree-requires-2
-    same-length
+    (λ c. search needs)
     returns
-    same-length-2
+    (λ c. search needs)
     returns-2)

@@ -25,9 +25,6 @@ mul-smaller c = omega arith
 add-smaller : tie.Need-add-smaller Inv-loop μ-loop
 add-smaller c = omega arith
 
-smaller-requires : tie.Need-smaller-requires Inv-loop μ-loop
-smaller-requires c κs = search needs
-
 same-length : tie.Need-same-length Inv-loop μ-loop
 same-length c = omega arith
 
@@ -59,7 +56,7 @@ first-in-blocks-spec =
     first-in-block-requires
     mul-smaller
     add-smaller
-    smaller-requires
+    (λ c κs. search needs)
     same-length
     returns
     add-b

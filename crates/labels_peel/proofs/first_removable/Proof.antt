@@ -15,9 +15,6 @@ abbrev μ-loop : tie.MeasureT-loop
 add-groups : tie.Need-add-groups Inv-loop μ-loop
 add-groups c = omega arith
 
-loop-holds : tie.Need-loop-holds Inv-loop μ-loop
-loop-holds c = search needs
-
 first-in-group-requires : tie.Need-first-in-group-requires Inv-loop μ-loop
 first-in-group-requires c κs = omega arith
 
@@ -49,7 +46,7 @@ first-removable-spec =
     Inv-loop
     μ-loop
     add-groups
-    loop-holds
+    (λ c. search needs)
     first-in-group-requires
     same-length
     returns

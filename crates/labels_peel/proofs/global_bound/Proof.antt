@@ -4,11 +4,8 @@ use borrow.Author.Needs.{needs}
 use Rattle.labels_peel.proofs.global_bound.Statement.{statement}
 use Rattle.labels_peel.proofs.global_bound.Tie as tie
 
-get-mark-requires : tie.Need-get-mark-requires
-get-mark-requires c κs = search needs
-
 returns : tie.Need-returns
 returns c = root-is _ (c .get-mark .result) (c .get-mark .ensures .0)
 
 pub global-bound-spec : {M : Type 1} → statement M
-global-bound-spec = tie.close (tie.spec get-mark-requires returns)
+global-bound-spec = tie.close (tie.spec (λ c κs. search needs) returns)

@@ -14,14 +14,8 @@ add-set-degree c = omega arith
 set-degree-requires : tie.Need-set-degree-requires
 set-degree-requires c κs = omega arith
 
-same-length : tie.Need-same-length
-same-length c = search needs
-
 returns : tie.Need-returns
 returns c = search more-up
-
-same-length-2 : tie.Need-same-length-2
-same-length-2 c = search needs
 
 returns-2 : tie.Need-returns-2
 returns-2 c = search more-full
@@ -33,7 +27,7 @@ increment-degree-spec =
     frontier-degree-requires
     add-set-degree
     set-degree-requires
-    same-length
+    (λ c. search needs)
     returns
-    same-length-2
+    (λ c. search needs)
     returns-2)

@@ -5,9 +5,6 @@ use borrow.Author.Needs.{needs}
 use Rattle.labels_peel.proofs.init.Statement.{statement}
 use Rattle.labels_peel.proofs.init.Tie as tie
 
-clear-degrees-requires : tie.Need-clear-degrees-requires
-clear-degrees-requires c κs = search needs
-
 init-degrees-requires : tie.Need-init-degrees-requires
 init-degrees-requires c κs = search room-kept
 
@@ -28,9 +25,6 @@ init-labels-requires c κs =
       start .pre .0 .vertices 0 .room,
     )
 
-same-length : tie.Need-same-length
-same-length c = search needs
-
 returns : tie.Need-returns
 returns c = search begin-is
 
@@ -38,9 +32,9 @@ pub init-spec : {M : Type 1} → statement M
 init-spec =
     tie.close
     (tie.spec
-    clear-degrees-requires
+    (λ c κs. search needs)
     init-degrees-requires
     init-frontier-requires
     init-labels-requires
-    same-length
+    (λ c. search needs)
     returns)

@@ -6,29 +6,11 @@ use borrow.Author.Needs.{needs}
 use Rattle.labels_peel.proofs.init_degrees.Statement.{statement}
 use Rattle.labels_peel.proofs.init_degrees.Tie as tie
 
-origin-requires : tie.Need-origin-requires
-origin-requires c κs = search needs
-
-origin-requires-2 : tie.Need-origin-requires-2
-origin-requires-2 c κs = search needs
-
-origin-requires-3 : tie.Need-origin-requires-3
-origin-requires-3 c κs = search needs
-
-mul-set-mark : tie.Need-mul-set-mark
-mul-set-mark c = search needs
-
 set-mark-requires : tie.Need-set-mark-requires
 set-mark-requires c κs = search (org-holds, mark-room, needs)
 
-mul-set-mark-2 : tie.Need-mul-set-mark-2
-mul-set-mark-2 c = search needs
-
 set-mark-requires-2 : tie.Need-set-mark-requires-2
 set-mark-requires-2 c κs = search (holds-kept, org-holds, mark-room, needs)
-
-mul-set-mark-3 : tie.Need-mul-set-mark-3
-mul-set-mark-3 c = search needs
 
 set-mark-requires-3 : tie.Need-set-mark-requires-3
 set-mark-requires-3 c κs =
@@ -43,9 +25,6 @@ set-mark-requires-3 c κs =
       omega arith,
     )
 
-same-length : tie.Need-same-length
-same-length c = search needs
-
 returns : tie.Need-returns
 returns c = search marks-is
 
@@ -53,14 +32,14 @@ pub init-degrees-spec : {M : Type 1} → statement M
 init-degrees-spec =
     tie.close
     (tie.spec
-    origin-requires
-    origin-requires-2
-    origin-requires-3
-    mul-set-mark
+    (λ c κs. search needs)
+    (λ c κs. search needs)
+    (λ c κs. search needs)
+    (λ c. search needs)
     set-mark-requires
-    mul-set-mark-2
+    (λ c. search needs)
     set-mark-requires-2
-    mul-set-mark-3
+    (λ c. search needs)
     set-mark-requires-3
-    same-length
+    (λ c. search needs)
     returns)

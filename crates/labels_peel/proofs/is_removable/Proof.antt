@@ -11,14 +11,8 @@ frontier-degree-requires c κs = omega arith
 returns : tie.Need-returns
 returns c = search can-not
 
-origin-requires : tie.Need-origin-requires
-origin-requires c κs = search needs
-
 returns-2 : tie.Need-returns-2
 returns-2 c = search can-not-0
-
-origin-requires-2 : tie.Need-origin-requires-2
-origin-requires-2 c κs = search needs
 
 returns-3 : tie.Need-returns-3
 returns-3 c = search can-but-2
@@ -29,7 +23,7 @@ is-removable-spec =
     (tie.spec
     frontier-degree-requires
     returns
-    origin-requires
+    (λ c κs. search needs)
     returns-2
-    origin-requires-2
+    (λ c κs. search needs)
     returns-3)

@@ -23,9 +23,6 @@ add-set-mark c = omega arith
 set-mark-requires : tie.Need-set-mark-requires
 set-mark-requires c κs = omega arith
 
-same-length : tie.Need-same-length
-same-length c = search needs
-
 returns : tie.Need-returns
 returns c = search gone-is
 
@@ -39,5 +36,5 @@ leave-frontier-spec =
     mul-set-mark
     add-set-mark
     set-mark-requires
-    same-length
+    (λ c. search needs)
     returns)

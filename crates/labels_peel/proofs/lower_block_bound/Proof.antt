@@ -8,14 +8,8 @@ use Rattle.labels_peel.proofs.lower_block_bound.Tie as tie
 block-bound-requires : tie.Need-block-bound-requires
 block-bound-requires c κs = omega arith
 
-smaller-requires : tie.Need-smaller-requires
-smaller-requires c κs = search needs
-
 set-block-bound-requires : tie.Need-set-block-bound-requires
 set-block-bound-requires c κs = omega arith
-
-same-length : tie.Need-same-length
-same-length c = search needs
 
 returns : tie.Need-returns
 returns c = search block-is
@@ -25,7 +19,7 @@ lower-block-bound-spec =
     tie.close
     (tie.spec
     block-bound-requires
-    smaller-requires
+    (λ c κs. search needs)
     set-block-bound-requires
-    same-length
+    (λ c. search needs)
     returns)

@@ -5,17 +5,11 @@ use borrow.Author.Needs.{needs}
 use Rattle.labels_peel.proofs.lower_bounds.Statement.{statement}
 use Rattle.labels_peel.proofs.lower_bounds.Tie as tie
 
-lower-block-bound-requires : tie.Need-lower-block-bound-requires
-lower-block-bound-requires c κs = search needs
-
 lower-group-bound-requires : tie.Need-lower-group-bound-requires
 lower-group-bound-requires c κs = omega arith
 
 lower-global-bound-requires : tie.Need-lower-global-bound-requires
 lower-global-bound-requires c κs = omega arith
-
-same-length : tie.Need-same-length
-same-length c = search needs
 
 returns : tie.Need-returns
 returns c = search wake-is
@@ -23,4 +17,4 @@ returns c = search wake-is
 pub lower-bounds-spec : {M : Type 1} → statement M
 lower-bounds-spec =
     tie.close
-    (tie.spec lower-block-bound-requires lower-group-bound-requires lower-global-bound-requires same-length returns)
+    (tie.spec (λ c κs. search needs) lower-group-bound-requires lower-global-bound-requires (λ c. search needs) returns)

@@ -8,14 +8,8 @@ use Rattle.labels_peel.proofs.lower_group_bound.Tie as tie
 group-bound-requires : tie.Need-group-bound-requires
 group-bound-requires c κs = omega arith
 
-smaller-requires : tie.Need-smaller-requires
-smaller-requires c κs = search needs
-
 set-group-bound-requires : tie.Need-set-group-bound-requires
 set-group-bound-requires c κs = omega arith
-
-same-length : tie.Need-same-length
-same-length c = search needs
 
 returns : tie.Need-returns
 returns c = search group-is
@@ -25,7 +19,7 @@ lower-group-bound-spec =
     tie.close
     (tie.spec
     group-bound-requires
-    smaller-requires
+    (λ c κs. search needs)
     set-group-bound-requires
-    same-length
+    (λ c. search needs)
     returns)

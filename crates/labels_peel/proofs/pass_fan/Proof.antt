@@ -12,17 +12,8 @@ Inv-loop triangles s₀ right first g₀ k₀ s g k = Fanning triangles right fi
 abbrev μ-loop : tie.MeasureT-loop
 μ-loop triangles s₀ right first g₀ k₀ s g k = k
 
-loop-holds : tie.Need-loop-holds Inv-loop μ-loop
-loop-holds c = search needs
-
 prev-dart-requires : tie.Need-prev-dart-requires Inv-loop μ-loop
 prev-dart-requires c κs = omega arith
-
-origin-requires : tie.Need-origin-requires Inv-loop μ-loop
-origin-requires c κs = search needs
-
-opposite-requires : tie.Need-opposite-requires Inv-loop μ-loop
-opposite-requires c κs = search needs
 
 pass-triangle-requires : tie.Need-pass-triangle-requires Inv-loop μ-loop
 pass-triangle-requires c κs = search room-kept
@@ -76,10 +67,10 @@ pass-fan-spec =
     (tie.spec
     Inv-loop
     μ-loop
-    loop-holds
+    (λ c. search needs)
     prev-dart-requires
-    origin-requires
-    opposite-requires
+    (λ c κs. search needs)
+    (λ c κs. search needs)
     pass-triangle-requires
     same-length
     returns

@@ -11,15 +11,6 @@ next-dart-requires c κs = omega arith
 prev-dart-requires : tie.Need-prev-dart-requires
 prev-dart-requires c κs = omega arith
 
-origin-requires : tie.Need-origin-requires
-origin-requires c κs = search needs
-
-origin-requires-2 : tie.Need-origin-requires-2
-origin-requires-2 c κs = search needs
-
-opposite-requires : tie.Need-opposite-requires
-opposite-requires c κs = search needs
-
 set-labels-requires : tie.Need-set-labels-requires
 set-labels-requires c κs =
     let start : tie.Start = search in
@@ -30,9 +21,6 @@ set-labels-requires c κs =
 
 add-frontier-dart-requires : tie.Need-add-frontier-dart-requires
 add-frontier-dart-requires c κs = search (holds-kept, org-holds, needs)
-
-same-length : tie.Need-same-length
-same-length c = search needs
 
 returns : tie.Need-returns
 returns c = search pass-is
@@ -46,11 +34,11 @@ pass-triangle-spec =
     (tie.spec
     next-dart-requires
     prev-dart-requires
-    origin-requires
-    origin-requires-2
-    opposite-requires
+    (λ c κs. search needs)
+    (λ c κs. search needs)
+    (λ c κs. search needs)
     set-labels-requires
     add-frontier-dart-requires
-    same-length
+    (λ c. search needs)
     returns
     returns-2)

@@ -4,17 +4,11 @@ use borrow.Author.Needs.{needs}
 use Rattle.labels_peel.proofs.peel.Statement.{statement}
 use Rattle.labels_peel.proofs.peel.Tie as tie
 
-init-requires : tie.Need-init-requires
-init-requires c κs = search needs
-
 remove-all-requires : tie.Need-remove-all-requires
 remove-all-requires c κs = search (room-kept, wide-kept)
-
-same-length : tie.Need-same-length
-same-length c = search needs
 
 returns : tie.Need-returns
 returns c = search stage-is
 
 pub peel-spec : {M : Type 1} → statement M
-peel-spec = tie.close (tie.spec init-requires remove-all-requires same-length returns)
+peel-spec = tie.close (tie.spec (λ c κs. search needs) remove-all-requires (λ c. search needs) returns)

@@ -6,12 +6,6 @@ use borrow.Author.Needs.{needs}
 use Rattle.labels_peel.proofs.remove_next.Statement.{statement}
 use Rattle.labels_peel.proofs.remove_next.Tie as tie
 
-global-bound-requires : tie.Need-global-bound-requires
-global-bound-requires c κs = search needs
-
-first-removable-requires : tie.Need-first-removable-requires
-first-removable-requires c κs = search needs
-
 set-global-bound-requires : tie.Need-set-global-bound-requires
 set-global-bound-requires c κs = omega arith
 
@@ -32,14 +26,8 @@ remove-vertex-requires c κs =
           (then1 .if1 .taken)),
     )
 
-same-length : tie.Need-same-length
-same-length c = search needs
-
 returns : tie.Need-returns
 returns c = search turn-leaves
-
-same-length-2 : tie.Need-same-length-2
-same-length-2 c = search needs
 
 returns-2 : tie.Need-returns-2
 returns-2 c = search turn-stays
@@ -48,11 +36,11 @@ pub remove-next-spec : {M : Type 1} → statement M
 remove-next-spec =
     tie.close
     (tie.spec
-    global-bound-requires
-    first-removable-requires
+    (λ c κs. search needs)
+    (λ c κs. search needs)
     set-global-bound-requires
     remove-vertex-requires
-    same-length
+    (λ c. search needs)
     returns
-    same-length-2
+    (λ c. search needs)
     returns-2)

@@ -5,26 +5,14 @@ use borrow.Author.Needs.{needs}
 use Rattle.labels_peel.proofs.remove_vertex.Statement.{statement}
 use Rattle.labels_peel.proofs.remove_vertex.Tie as tie
 
-get-head-requires : tie.Need-get-head-requires
-get-head-requires c κs = search needs
-
 tip-requires : tie.Need-tip-requires
 tip-requires c κs = omega (arith, small-past (c .get-head .result))
-
-get-count-requires : tie.Need-get-count-requires
-get-count-requires c κs = search needs
-
-origin-requires : tie.Need-origin-requires
-origin-requires c κs = search needs
 
 leave-frontier-requires : tie.Need-leave-frontier-requires
 leave-frontier-requires c κs = search (org-holds, tip-holds)
 
 pass-fan-requires : tie.Need-pass-fan-requires
 pass-fan-requires c κs = search (room-kept, small-past)
-
-same-length : tie.Need-same-length
-same-length c = search needs
 
 returns : tie.Need-returns
 returns c = search leave-is
@@ -33,11 +21,11 @@ pub remove-vertex-spec : {M : Type 1} → statement M
 remove-vertex-spec =
     tie.close
     (tie.spec
-    get-head-requires
+    (λ c κs. search needs)
     tip-requires
-    get-count-requires
-    origin-requires
+    (λ c κs. search needs)
+    (λ c κs. search needs)
     leave-frontier-requires
     pass-fan-requires
-    same-length
+    (λ c. search needs)
     returns)

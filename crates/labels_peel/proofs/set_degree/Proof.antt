@@ -11,14 +11,8 @@ store-degree-requires c κs = omega arith
 lower-bounds-requires : tie.Need-lower-bounds-requires
 lower-bounds-requires c κs = omega arith
 
-same-length : tie.Need-same-length
-same-length c = search needs
-
 returns : tie.Need-returns
 returns c = search put-on
-
-same-length-2 : tie.Need-same-length-2
-same-length-2 c = search needs
 
 returns-2 : tie.Need-returns-2
 returns-2 c = search put-off
@@ -29,7 +23,7 @@ set-degree-spec =
     (tie.spec
     store-degree-requires
     lower-bounds-requires
-    same-length
+    (λ c. search needs)
     returns
-    same-length-2
+    (λ c. search needs)
     returns-2)

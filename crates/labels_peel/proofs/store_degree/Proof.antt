@@ -8,9 +8,6 @@ use Rattle.labels_peel.proofs.store_degree.Tie as tie
 mul-get-mark : tie.Need-mul-get-mark
 mul-get-mark c = omega arith
 
-get-mark-requires : tie.Need-get-mark-requires
-get-mark-requires c κs = search needs
-
 mul-set-mark : tie.Need-mul-set-mark
 mul-set-mark c = omega arith
 
@@ -23,9 +20,6 @@ add-set-mark c = omega arith
 set-mark-requires : tie.Need-set-mark-requires
 set-mark-requires c κs = omega arith
 
-same-length : tie.Need-same-length
-same-length c = search needs
-
 returns : tie.Need-returns
 returns c = search setNear-is
 
@@ -34,10 +28,10 @@ store-degree-spec =
     tie.close
     (tie.spec
     mul-get-mark
-    get-mark-requires
+    (λ c κs. search needs)
     mul-set-mark
     mul-set-mark-2
     add-set-mark
     set-mark-requires
-    same-length
+    (λ c. search needs)
     returns)

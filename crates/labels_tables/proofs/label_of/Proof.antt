@@ -6,12 +6,9 @@ use borrow.Author.Needs.{needs}
 use Rattle.labels_tables.proofs.label_of.Statement.{statement}
 use Rattle.labels_tables.proofs.label_of.Tie as tie
 
-get-op-requires : tie.Need-get-op-requires
-get-op-requires c κs = search needs
-
 returns : tie.Need-returns
 unfolding labelIn
 returns c = ap (λ (x : ℕ). x / 65536) (c .get-op .ensures .0)
 
 pub label-of-spec : {M : Type 1} → statement M
-label-of-spec = tie.close (tie.spec get-op-requires returns)
+label-of-spec = tie.close (tie.spec (λ c κs. search needs) returns)

@@ -7,12 +7,9 @@ use borrow.Author.Needs.{needs}
 use Rattle.labels_tables.proofs.opposite.Statement.{statement}
 use Rattle.labels_tables.proofs.opposite.Tie as tie
 
-get-op-requires : tie.Need-get-op-requires
-get-op-requires c κs = search needs
-
 returns : tie.Need-returns
 unfolding oppositeIn
 returns c = (ap (λ (x : ℕ). x % 65536) (c .get-op .ensures .0), omega arith)
 
 pub opposite-spec : {M : Type 1} → statement M
-opposite-spec = tie.close (tie.spec get-op-requires returns)
+opposite-spec = tie.close (tie.spec (λ c κs. search needs) returns)

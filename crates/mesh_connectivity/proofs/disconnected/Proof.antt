@@ -5,9 +5,6 @@ use borrow.Author.Needs.{needs}
 use Rattle.mesh_connectivity.proofs.disconnected.Statement.{statement}
 use Rattle.mesh_connectivity.proofs.disconnected.Tie as tie
 
-clear-marks-requires : tie.Need-clear-marks-requires
-clear-marks-requires c κs = search needs
-
 set-mark-requires : tie.Need-set-mark-requires
 set-mark-requires c κs =
     let start : tie.Start = search in
@@ -23,12 +20,6 @@ set-mark-requires c κs =
 flood-fill-requires : tie.Need-flood-fill-requires
 flood-fill-requires c κs = search marks-same
 
-some-unmarked-requires : tie.Need-some-unmarked-requires
-some-unmarked-requires c κs = search needs
-
-same-length : tie.Need-same-length
-same-length c = search needs
-
 returns : tie.Need-returns
 returns c = search split
 
@@ -36,9 +27,9 @@ pub disconnected-spec : {M : Type 1} → statement M
 disconnected-spec =
     tie.close
     (tie.spec
-    clear-marks-requires
+    (λ c κs. search needs)
     set-mark-requires
     flood-fill-requires
-    some-unmarked-requires
-    same-length
+    (λ c κs. search needs)
+    (λ c. search needs)
     returns)

@@ -5,9 +5,6 @@ use borrow.Author.Needs.{needs}
 use Rattle.mesh_connectivity.proofs.is_unreached.Statement.{statement}
 use Rattle.mesh_connectivity.proofs.is_unreached.Tie as tie
 
-get-mark-requires : tie.Need-get-mark-requires
-get-mark-requires c κs = search needs
-
 returns : tie.Need-returns
 returns c =
     let start : tie.Start = search in
@@ -18,4 +15,4 @@ returns-2 : tie.Need-returns-2
 returns-2 c = new-past (c .before .args .m) (c .before .args .t) (tablesOf (c .before .args .s .now) .mark) (c .if1 .left)
 
 pub is-unreached-spec : {M : Type 1} → statement M
-is-unreached-spec = tie.close (tie.spec get-mark-requires returns returns-2)
+is-unreached-spec = tie.close (tie.spec (λ c κs. search needs) returns returns-2)

@@ -6,35 +6,8 @@ use borrow.Author.Needs.{needs}
 use Rattle.mesh_connectivity.proofs.pop_triangle.Statement.{statement}
 use Rattle.mesh_connectivity.proofs.pop_triangle.Tie as tie
 
-sub-t : tie.Need-sub-t
-sub-t c = search needs
-
-get-mark-requires : tie.Need-get-mark-requires
-get-mark-requires c κs = search needs
-
-saturating-sub-requires : tie.Need-saturating-sub-requires
-saturating-sub-requires c κs = search needs
-
-mul-push-neighbour : tie.Need-mul-push-neighbour
-mul-push-neighbour c = search needs
-
-push-neighbour-requires : tie.Need-push-neighbour-requires
-push-neighbour-requires c κs = search needs
-
-mul-push-neighbour-2 : tie.Need-mul-push-neighbour-2
-mul-push-neighbour-2 c = search needs
-
-add-push-neighbour : tie.Need-add-push-neighbour
-add-push-neighbour c = search needs
-
 push-neighbour-requires-2 : tie.Need-push-neighbour-requires-2
 push-neighbour-requires-2 c κs = search marks-same
-
-mul-push-neighbour-3 : tie.Need-mul-push-neighbour-3
-mul-push-neighbour-3 c = search needs
-
-add-push-neighbour-2 : tie.Need-add-push-neighbour-2
-add-push-neighbour-2 c = search needs
 
 push-neighbour-requires-3 : tie.Need-push-neighbour-requires-3
 push-neighbour-requires-3 c κs =
@@ -46,9 +19,6 @@ push-neighbour-requires-3 c κs =
           (start .pre .0),
       after-push-neighbour2 .push-neighbour2 .ensures .1,
     )
-
-same-length : tie.Need-same-length
-same-length c = search needs
 
 returns : tie.Need-returns
 returns c = let start : tie.Start = search in
@@ -82,17 +52,17 @@ pub pop-triangle-spec : {M : Type 1} → statement M
 pop-triangle-spec =
     tie.close
     (tie.spec
-    sub-t
-    get-mark-requires
-    saturating-sub-requires
-    mul-push-neighbour
-    push-neighbour-requires
-    mul-push-neighbour-2
-    add-push-neighbour
+    (λ c. search needs)
+    (λ c κs. search needs)
+    (λ c κs. search needs)
+    (λ c. search needs)
+    (λ c κs. search needs)
+    (λ c. search needs)
+    (λ c. search needs)
     push-neighbour-requires-2
-    mul-push-neighbour-3
-    add-push-neighbour-2
+    (λ c. search needs)
+    (λ c. search needs)
     push-neighbour-requires-3
-    same-length
+    (λ c. search needs)
     returns
     returns-2)

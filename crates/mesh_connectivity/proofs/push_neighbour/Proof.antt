@@ -9,15 +9,6 @@ use borrow.Author.Needs.{needs}
 use Rattle.mesh_connectivity.proofs.push_neighbour.Statement.{statement}
 use Rattle.mesh_connectivity.proofs.push_neighbour.Tie as tie
 
-get-op-requires : tie.Need-get-op-requires
-get-op-requires c κs = search needs
-
-is-unreached-requires : tie.Need-is-unreached-requires
-is-unreached-requires c κs = search needs
-
-add-set-mark : tie.Need-add-set-mark
-add-set-mark c = search needs
-
 set-mark-requires : tie.Need-set-mark-requires
 set-mark-requires c κs = let start : tie.Start = search in
     let after-get-op : tie.After-get-op = search in
@@ -28,12 +19,6 @@ set-mark-requires c κs = let start : tie.Start = search in
       start .pre .0 .at (after-get-op .get-op .result / 3) low,
       start .pre .1,
     )
-
-add-result : tie.Need-add-result
-add-result c = search needs
-
-same-length : tie.Need-same-length
-same-length c = search needs
 
 returns : tie.Need-returns
 unfolding tri
@@ -55,9 +40,6 @@ returns c = let start : tie.Start = search in
       omega (arith, low, start .pre .0 .few),
     )
 
-same-length-2 : tie.Need-same-length-2
-same-length-2 c = search needs
-
 returns-2 : tie.Need-returns-2
 unfolding tri
 returns-2 c =
@@ -74,12 +56,12 @@ pub push-neighbour-spec : {M : Type 1} → statement M
 push-neighbour-spec =
     tie.close
     (tie.spec
-    get-op-requires
-    is-unreached-requires
-    add-set-mark
+    (λ c κs. search needs)
+    (λ c κs. search needs)
+    (λ c. search needs)
     set-mark-requires
-    add-result
-    same-length
+    (λ c. search needs)
+    (λ c. search needs)
     returns
-    same-length-2
+    (λ c. search needs)
     returns-2)

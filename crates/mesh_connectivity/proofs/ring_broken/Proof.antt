@@ -6,20 +6,8 @@ use borrow.Author.Needs.{needs}
 use Rattle.mesh_connectivity.proofs.ring_broken.Statement.{statement}
 use Rattle.mesh_connectivity.proofs.ring_broken.Tie as tie
 
-get-count-requires : tie.Need-get-count-requires
-get-count-requires c κs = search needs
-
 returns : tie.Need-returns
 returns c = search (tablesOf, broken-none)
-
-get-head-requires : tie.Need-get-head-requires
-get-head-requires c κs = search needs
-
-sub-returns-to : tie.Need-sub-returns-to
-sub-returns-to c = search needs
-
-returns-to-requires : tie.Need-returns-to-requires
-returns-to-requires c κs = search needs
 
 returns-2 : tie.Need-returns-2
 returns-2 c = let start : tie.Start = search in
@@ -33,9 +21,9 @@ pub ring-broken-spec : {M : Type 1} → statement M
 ring-broken-spec =
     tie.close
     (tie.spec
-    get-count-requires
+    (λ c κs. search needs)
     returns
-    get-head-requires
-    sub-returns-to
-    returns-to-requires
+    (λ c κs. search needs)
+    (λ c. search needs)
+    (λ c κs. search needs)
     returns-2)

@@ -15,9 +15,6 @@ Inv-loop triangles s₀ d₀ s d = Filled triangles s₀ s d
 abbrev μ-loop : tie.MeasureT-loop
 μ-loop triangles s₀ d₀ s d = d
 
-loop-holds : tie.Need-loop-holds Inv-loop μ-loop
-loop-holds c = search needs
-
 sub-d : tie.Need-sub-d Inv-loop μ-loop
 sub-d c = omega arith
 
@@ -56,7 +53,7 @@ fill-incidence-lists-spec =
     (tie.spec
     Inv-loop
     μ-loop
-    loop-holds
+    (λ c. search needs)
     sub-d
     push-dart-requires
     loop-less

@@ -6,23 +6,11 @@ use borrow.Author.Needs.{needs}
 use Rattle.mesh_sides.proofs.mark_neighbour.Statement.{statement}
 use Rattle.mesh_sides.proofs.mark_neighbour.Tie as tie
 
-prev-dart-requires : tie.Need-prev-dart-requires
-prev-dart-requires c κs = search needs
-
-origin-requires : tie.Need-origin-requires
-origin-requires c κs = search needs
-
 mul-get-mark : tie.Need-mul-get-mark
 mul-get-mark c = omega arith
 
-get-mark-requires : tie.Need-get-mark-requires
-get-mark-requires c κs = search needs
-
 add-if1 : tie.Need-add-if1
 add-if1 c = omega arith
-
-same-length : tie.Need-same-length
-same-length c = search needs
 
 returns : tie.Need-returns
 returns c =
@@ -34,9 +22,6 @@ returns c =
     (start .args .e) (after-origin .origin .result) (c .before .get-mark .result)
     (rw (after-prev-dart .prev-dart .ensures) at (after-origin .origin .ensures .0)) (c .before .get-mark .ensures .0)
     (c .if1 .taken)
-
-next-dart-requires : tie.Need-next-dart-requires
-next-dart-requires c κs = search needs
 
 mul-set-mark : tie.Need-mul-set-mark
 mul-set-mark c = omega arith
@@ -66,9 +51,6 @@ set-mark-requires c κs =
       omega (arith, start .pre .0 .small),
     )
 
-same-length-2 : tie.Need-same-length-2
-same-length-2 c = search needs
-
 returns-2 : tie.Need-returns-2
 returns-2 c = let start : tie.Start = search in
     let after-prev-dart : tie.After-prev-dart = search in
@@ -90,18 +72,18 @@ pub mark-neighbour-spec : {M : Type 1} → statement M
 mark-neighbour-spec =
     tie.close
     (tie.spec
-    prev-dart-requires
-    origin-requires
+    (λ c κs. search needs)
+    (λ c κs. search needs)
     mul-get-mark
-    get-mark-requires
+    (λ c κs. search needs)
     add-if1
-    same-length
+    (λ c. search needs)
     returns
-    next-dart-requires
+    (λ c κs. search needs)
     mul-set-mark
     add-set-mark
     mul-set-mark-2
     add-set-mark-2
     set-mark-requires
-    same-length-2
+    (λ c. search needs)
     returns-2)

@@ -5,14 +5,8 @@ use borrow.Author.Needs.{needs}
 use Rattle.mesh_sides.proofs.match_dart.Statement.{statement}
 use Rattle.mesh_sides.proofs.match_dart.Tie as tie
 
-origin-requires : tie.Need-origin-requires
-origin-requires c κs = search needs
-
 mul-get-mark : tie.Need-mul-get-mark
 mul-get-mark c = omega arith
-
-get-mark-requires : tie.Need-get-mark-requires
-get-mark-requires c κs = search needs
 
 add-if2 : tie.Need-add-if2
 add-if2 c = omega arith
@@ -26,14 +20,8 @@ set-op-requires c κs =
       omega arith,
     )
 
-same-length : tie.Need-same-length
-same-length c = search needs
-
 returns : tie.Need-returns
 returns c = search met-one
-
-same-length-2 : tie.Need-same-length-2
-same-length-2 c = search needs
 
 returns-2 : tie.Need-returns-2
 returns-2 c = search met-none
@@ -45,13 +33,13 @@ pub match-dart-spec : {M : Type 1} → statement M
 match-dart-spec =
     tie.close
     (tie.spec
-    origin-requires
+    (λ c κs. search needs)
     mul-get-mark
-    get-mark-requires
+    (λ c κs. search needs)
     add-if2
     set-op-requires
-    same-length
+    (λ c. search needs)
     returns
-    same-length-2
+    (λ c. search needs)
     returns-2
     returns-3)

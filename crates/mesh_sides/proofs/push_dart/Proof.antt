@@ -5,18 +5,6 @@ use borrow.Author.Needs.{needs}
 use Rattle.mesh_sides.proofs.push_dart.Statement.{statement}
 use Rattle.mesh_sides.proofs.push_dart.Tie as tie
 
-origin-requires : tie.Need-origin-requires
-origin-requires c κs = search needs
-
-get-head-requires : tie.Need-get-head-requires
-get-head-requires c κs = search needs
-
-get-count-requires : tie.Need-get-count-requires
-get-count-requires c κs = search needs
-
-prev-dart-requires : tie.Need-prev-dart-requires
-prev-dart-requires c κs = search needs
-
 prev-dart-requires-2 : tie.Need-prev-dart-requires-2
 prev-dart-requires-2 c κs = omega arith
 
@@ -87,9 +75,6 @@ set-count-requires c κs =
       ),
     )
 
-same-length : tie.Need-same-length
-same-length c = search needs
-
 returns : tie.Need-returns
 returns c = search pushed
 
@@ -97,14 +82,14 @@ pub push-dart-spec : {M : Type 1} → statement M
 push-dart-spec =
     tie.close
     (tie.spec
-    origin-requires
-    get-head-requires
-    get-count-requires
-    prev-dart-requires
+    (λ c κs. search needs)
+    (λ c κs. search needs)
+    (λ c κs. search needs)
+    (λ c κs. search needs)
     prev-dart-requires-2
     set-op-requires
     set-head-requires
     add-set-count
     set-count-requires
-    same-length
+    (λ c. search needs)
     returns)

@@ -4,21 +4,6 @@ use borrow.Author.Needs.{needs}
 use Rattle.mesh_sides.proofs.repeated_at.Statement.{statement}
 use Rattle.mesh_sides.proofs.repeated_at.Tie as tie
 
-origin-requires : tie.Need-origin-requires
-origin-requires c κs = search needs
-
-add-origin : tie.Need-add-origin
-add-origin c = search needs
-
-origin-requires-2 : tie.Need-origin-requires-2
-origin-requires-2 c κs = search needs
-
-add-origin-2 : tie.Need-add-origin-2
-add-origin-2 c = search needs
-
-origin-requires-3 : tie.Need-origin-requires-3
-origin-requires-3 c κs = search needs
-
 returns : tie.Need-returns
 returns c = search doubled-1
 
@@ -32,11 +17,11 @@ pub repeated-at-spec : {M : Type 1} → statement M
 repeated-at-spec =
     tie.close
     (tie.spec
-    origin-requires
-    add-origin
-    origin-requires-2
-    add-origin-2
-    origin-requires-3
+    (λ c κs. search needs)
+    (λ c. search needs)
+    (λ c κs. search needs)
+    (λ c. search needs)
+    (λ c κs. search needs)
     returns
     returns-2
     returns-3)

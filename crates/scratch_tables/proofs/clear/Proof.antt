@@ -4,14 +4,8 @@ use borrow.Author.Needs.{needs}
 use Rattle.scratch_tables.proofs.clear.Statement.{statement}
 use Rattle.scratch_tables.proofs.clear.Tie as tie
 
-clear-from-requires : tie.Need-clear-from-requires
-clear-from-requires c κs = search needs
-
-same-length : tie.Need-same-length
-same-length c = search needs
-
 returns : tie.Need-returns
 returns c = search cleared-all
 
 pub clear-spec : {M : Type 1} → statement M
-clear-spec = tie.close (tie.spec clear-from-requires same-length returns)
+clear-spec = tie.close (tie.spec (λ c κs. search needs) (λ c. search needs) returns)

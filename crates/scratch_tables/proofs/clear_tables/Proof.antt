@@ -4,17 +4,8 @@ use borrow.Author.Needs.{needs}
 use Rattle.scratch_tables.proofs.clear_tables.Statement.{statement}
 use Rattle.scratch_tables.proofs.clear_tables.Tie as tie
 
-mul-clear-from : tie.Need-mul-clear-from
-mul-clear-from c = search needs
-
-clear-from-requires : tie.Need-clear-from-requires
-clear-from-requires c κs = search needs
-
-same-length : tie.Need-same-length
-same-length c = search needs
-
 returns : tie.Need-returns
 returns c = search cleared-tables
 
 pub clear-tables-spec : {M : Type 1} → statement M
-clear-tables-spec = tie.close (tie.spec mul-clear-from clear-from-requires same-length returns)
+clear-tables-spec = tie.close (tie.spec (λ c. search needs) (λ c κs. search needs) (λ c. search needs) returns)

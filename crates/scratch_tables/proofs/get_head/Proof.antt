@@ -4,15 +4,6 @@ use borrow.Author.Needs.{needs}
 use Rattle.scratch_tables.proofs.get_head.Statement.{statement}
 use Rattle.scratch_tables.proofs.get_head.Tie as tie
 
-mul-load : tie.Need-mul-load
-mul-load c = search needs
-
-add-load : tie.Need-add-load
-add-load c = search needs
-
-load-requires : tie.Need-load-requires
-load-requires c κs = search needs
-
 returns : tie.Need-returns
 returns c = search head-in
 
@@ -20,4 +11,4 @@ returns-2 : tie.Need-returns-2
 returns-2 c = search (head-past, needs)
 
 pub get-head-spec : {M : Type 1} → statement M
-get-head-spec = tie.close (tie.spec mul-load add-load load-requires returns returns-2)
+get-head-spec = tie.close (tie.spec (λ c. search needs) (λ c. search needs) (λ c κs. search needs) returns returns-2)

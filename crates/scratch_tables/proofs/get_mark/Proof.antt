@@ -7,12 +7,6 @@ use borrow.Author.Needs.{needs}
 use Rattle.scratch_tables.proofs.get_mark.Statement.{statement}
 use Rattle.scratch_tables.proofs.get_mark.Tie as tie
 
-mul-if1 : tie.Need-mul-if1
-mul-if1 c = search needs
-
-mark-index-requires : tie.Need-mark-index-requires
-mark-index-requires c κs = search needs
-
 load-requires : tie.Need-load-requires
 load-requires c κs = let start : tie.Start = search in
     omega (arith, c .mark-index .ensures, mark-index (length (start .args .s .now)) (start .args .t) (search))
@@ -29,4 +23,4 @@ returns-2 : tie.Need-returns-2
 returns-2 c = search (mark-past, needs)
 
 pub get-mark-spec : {M : Type 1} → statement M
-get-mark-spec = tie.close (tie.spec mul-if1 mark-index-requires load-requires returns returns-2)
+get-mark-spec = tie.close (tie.spec (λ c. search needs) (λ c κs. search needs) load-requires returns returns-2)

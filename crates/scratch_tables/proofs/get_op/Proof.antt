@@ -4,12 +4,6 @@ use borrow.Author.Needs.{needs}
 use Rattle.scratch_tables.proofs.get_op.Statement.{statement}
 use Rattle.scratch_tables.proofs.get_op.Tie as tie
 
-mul-if1 : tie.Need-mul-if1
-mul-if1 c = search needs
-
-load-requires : tie.Need-load-requires
-load-requires c κs = search needs
-
 returns : tie.Need-returns
 returns c = search op-in
 
@@ -17,4 +11,4 @@ returns-2 : tie.Need-returns-2
 returns-2 c = search (op-past, needs)
 
 pub get-op-spec : {M : Type 1} → statement M
-get-op-spec = tie.close (tie.spec mul-if1 load-requires returns returns-2)
+get-op-spec = tie.close (tie.spec (λ c. search needs) (λ c κs. search needs) returns returns-2)

@@ -10,15 +10,6 @@ use borrow.Author.Needs.{needs}
 use Rattle.scratch_tables.proofs.load.Statement.{statement}
 use Rattle.scratch_tables.proofs.load.Tie as tie
 
-mul-to-usize : tie.Need-mul-to-usize
-mul-to-usize c = search needs
-
-shared-slice-copy-out-to-usize : tie.Need-shared-slice-copy-out-to-usize
-shared-slice-copy-out-to-usize c = search needs
-
-to-usize-requires : tie.Need-to-usize-requires
-to-usize-requires c κs = search needs
-
 returns : tie.Need-returns
 unfolding wordAt
 returns c =
@@ -27,4 +18,4 @@ returns c =
     (c .to-usize .ensures .0 ∙ ap toNatural (toZ-ofZ f), c .to-usize .ensures .1)
 
 pub load-spec : {M : Type 1} → statement M
-load-spec = tie.close (tie.spec mul-to-usize shared-slice-copy-out-to-usize to-usize-requires returns)
+load-spec = tie.close (tie.spec (λ c. search needs) (λ c. search needs) (λ c κs. search needs) returns)

@@ -4,18 +4,6 @@ use borrow.Author.Needs.{needs}
 use Rattle.scratch_tables.proofs.mark_index.Statement.{statement}
 use Rattle.scratch_tables.proofs.mark_index.Tie as tie
 
-mul-result : tie.Need-mul-result
-mul-result c = search needs
-
-add-result : tie.Need-add-result
-add-result c = search needs
-
-mul-result-2 : tie.Need-mul-result-2
-mul-result-2 c = search needs
-
-add-result-2 : tie.Need-add-result-2
-add-result-2 c = search needs
-
 returns : tie.Need-returns
 returns c = search mark-even
 
@@ -24,4 +12,4 @@ returns-2 c = search mark-odd
 
 pub mark-index-spec : {M : Type 1} → statement M
 mark-index-spec =
-    tie.close (tie.spec mul-result add-result mul-result-2 add-result-2 returns returns-2)
+    tie.close (tie.spec (λ c. search needs) (λ c. search needs) (λ c. search needs) (λ c. search needs) returns returns-2)

@@ -5,12 +5,6 @@ use borrow.Author.Needs.{needs}
 use Rattle.scratch_tables.proofs.next_dart.Statement.{statement}
 use Rattle.scratch_tables.proofs.next_dart.Tie as tie
 
-sub-result : tie.Need-sub-result
-sub-result c = search needs
-
-add-result : tie.Need-add-result
-add-result c = search needs
-
 returns : tie.Need-returns
 unfolding next
 returns c = omega arith
@@ -20,4 +14,4 @@ unfolding next
 returns-2 c = omega (arith, c .if1 .left)
 
 pub next-dart-spec : {M : Type 1} → statement M
-next-dart-spec = tie.close (tie.spec sub-result add-result returns returns-2)
+next-dart-spec = tie.close (tie.spec (λ c. search needs) (λ c. search needs) returns returns-2)

@@ -7,15 +7,6 @@ use borrow.Author.Needs.{needs}
 use Rattle.scratch_tables.proofs.origin.Statement.{statement}
 use Rattle.scratch_tables.proofs.origin.Tie as tie
 
-mul-widen : tie.Need-mul-widen
-mul-widen c = search needs
-
-shared-slice-read-widen : tie.Need-shared-slice-read-widen
-shared-slice-read-widen c = search needs
-
-widen-requires : tie.Need-widen-requires
-widen-requires c κs = search needs
-
 returns : tie.Need-returns
 unfolding org
 returns c = (c .widen .ensures .0, c .widen .ensures .1)
@@ -27,4 +18,4 @@ returns-2 c =
     (sym (List·getD-eq-default (start .args .triangles .now) 0 (c .if1 .left)), omega arith)
 
 pub origin-spec : {M : Type 1} → statement M
-origin-spec = tie.close (tie.spec mul-widen shared-slice-read-widen widen-requires returns returns-2)
+origin-spec = tie.close (tie.spec (λ c. search needs) (λ c. search needs) (λ c κs. search needs) returns returns-2)

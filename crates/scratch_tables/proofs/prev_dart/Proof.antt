@@ -5,12 +5,6 @@ use borrow.Author.Needs.{needs}
 use Rattle.scratch_tables.proofs.prev_dart.Statement.{statement}
 use Rattle.scratch_tables.proofs.prev_dart.Tie as tie
 
-add-result : tie.Need-add-result
-add-result c = search needs
-
-sub-result : tie.Need-sub-result
-sub-result c = search needs
-
 returns : tie.Need-returns
 unfolding prev
 returns c = omega arith
@@ -20,4 +14,4 @@ unfolding prev
 returns-2 c = omega (arith, c .if1 .left)
 
 pub prev-dart-spec : {M : Type 1} → statement M
-prev-dart-spec = tie.close (tie.spec add-result sub-result returns returns-2)
+prev-dart-spec = tie.close (tie.spec (λ c. search needs) (λ c. search needs) returns returns-2)

@@ -5,22 +5,10 @@ use borrow.Author.Needs.{needs}
 use Rattle.scratch_tables.proofs.set_head.Statement.{statement}
 use Rattle.scratch_tables.proofs.set_head.Tie as tie
 
-mul-store : tie.Need-mul-store
-mul-store c = search needs
-
-add-store : tie.Need-add-store
-add-store c = search needs
-
-store-requires : tie.Need-store-requires
-store-requires c κs = search needs
-
-same-length : tie.Need-same-length
-same-length c = search needs
-
 returns : tie.Need-returns
 returns c = let start : tie.Start = search in
     ap tablesOf (search) ∙ tablesOf-head (start .args .s .now) (start .args .v)
     (start .args .x) (start .pre .0)
 
 pub set-head-spec : {M : Type 1} → statement M
-set-head-spec = tie.close (tie.spec mul-store add-store store-requires same-length returns)
+set-head-spec = tie.close (tie.spec (λ c. search needs) (λ c. search needs) (λ c κs. search needs) (λ c. search needs) returns)

@@ -9,18 +9,12 @@ use borrow.Author.Needs.{needs}
 use Rattle.scratch_tables.proofs.set_mark.Statement.{statement}
 use Rattle.scratch_tables.proofs.set_mark.Tie as tie
 
-mark-index-requires : tie.Need-mark-index-requires
-mark-index-requires c κs = search needs
-
 store-requires : tie.Need-store-requires
 store-requires c κs =
     let start : tie.Start = search in (
       omega (arith, c .mark-index .ensures, mark-index (length (start .args .s .now)) (start .args .t) (start .pre .0)),
       start .pre .1,
     )
-
-same-length : tie.Need-same-length
-same-length c = search needs
 
 returns : tie.Need-returns
 returns c = let start : tie.Start = search in
@@ -31,4 +25,4 @@ returns c = let start : tie.Start = search in
     (start .args .x) (start .pre .0)
 
 pub set-mark-spec : {M : Type 1} → statement M
-set-mark-spec = tie.close (tie.spec mark-index-requires store-requires same-length returns)
+set-mark-spec = tie.close (tie.spec (λ c κs. search needs) store-requires (λ c. search needs) returns)

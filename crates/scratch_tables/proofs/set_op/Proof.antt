@@ -5,16 +5,10 @@ use borrow.Author.Needs.{needs}
 use Rattle.scratch_tables.proofs.set_op.Statement.{statement}
 use Rattle.scratch_tables.proofs.set_op.Tie as tie
 
-store-requires : tie.Need-store-requires
-store-requires c κs = search needs
-
-same-length : tie.Need-same-length
-same-length c = search needs
-
 returns : tie.Need-returns
 returns c = let start : tie.Start = search in
     ap tablesOf (search) ∙ tablesOf-op (start .args .s .now) (start .args .d)
     (start .args .x) (start .pre .0)
 
 pub set-op-spec : {M : Type 1} → statement M
-set-op-spec = tie.close (tie.spec store-requires same-length returns)
+set-op-spec = tie.close (tie.spec (λ c κs. search needs) (λ c. search needs) returns)

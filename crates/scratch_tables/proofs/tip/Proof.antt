@@ -4,15 +4,9 @@ use borrow.Author.Needs.{needs}
 use Rattle.scratch_tables.proofs.tip.Statement.{statement}
 use Rattle.scratch_tables.proofs.tip.Tie as tie
 
-next-dart-requires : tie.Need-next-dart-requires
-next-dart-requires c κs = search needs
-
-origin-requires : tie.Need-origin-requires
-origin-requires c κs = search needs
-
 returns : tie.Need-returns
 unfolding tip
 returns c = (rw (← c .before .next-dart .ensures) (search), c .origin .ensures .1)
 
 pub tip-spec : {M : Type 1} → statement M
-tip-spec = tie.close (tie.spec next-dart-requires origin-requires returns)
+tip-spec = tie.close (tie.spec (λ c κs. search needs) (λ c κs. search needs) returns)
