@@ -54,9 +54,9 @@ module _ (x y a b : ℤ) (e : a ≡ x) (f : b ≡ y) where
   eq-fail h = rw (← e, ← f, h)
 
 -- -1 less a number below 0 fits, and is one less than its absolute value
-turned : (n : ℕ) → negsuc 0 -ℤ negsuc n ≡ pos n
+complement : (n : ℕ) → negsuc 0 -ℤ negsuc n ≡ pos n
 unfolding up dn
-turned n = ≡z (negsuc 0 -ℤ negsuc n) (pos n) (omega (arith, z- (negsuc 0) (negsuc n)))
+complement n = ≡z (negsuc 0 -ℤ negsuc n) (pos n) (omega (arith, z- (negsuc 0) (negsuc n)))
 
 record Below (a m : ℤ) : Type 0 where
   fits : SFits w64 m
@@ -65,7 +65,7 @@ record Below (a m : ℤ) : Type 0 where
 
 below : (a : ℤ) → SFits w64 a → ltZ a (pos 0) ≡ true → Below a (negsuc 0 -ℤ a)
 below (pos n) f h = let z : _≡_ {A = ℕ} 0 1 = cc (le-ltb n 0 (omega arith)) in absurd (omega arith)
-below (negsuc n) f h = rw (turned n) (record { fits = record { sfits = f .sfits }; sign = tt; one = omega arith })
+below (negsuc n) f h = rw (complement n) (record { fits = record { sfits = f .sfits }; sign = tt; one = omega arith })
 
 -- the same where the code's test found it below 0
 module _ (a : ℤ) (f : SFits w64 a) (h : ltZ (toZ w64 (ofZ w64 a)) (pos 0) ≡ true) where
@@ -135,8 +135,8 @@ held-size (pos n) = read-size n n (λ h. omega arith) (λ h. omega arith)
 held-size (negsuc n) = read-size (2 ^ 64 - suc n) (suc n) (λ h. omega arith) (λ h. omega arith)
 
 -- -1 less a number of 64 bits, each read back from its bits, is no more than one further from 0
-pub turned-size : {a : ℤ} → SFits w64 a → natAbs (toZ w64 (ofZ w64 (negsuc 0 -ℤ toZ w64 (ofZ w64 a)))) ≤ 2 ^ 63 + 1
-turned-size {a} f =
+pub complement-size : {a : ℤ} → SFits w64 a → natAbs (toZ w64 (ofZ w64 (negsuc 0 -ℤ toZ w64 (ofZ w64 a)))) ≤ 2 ^ 63 + 1
+complement-size {a} f =
     let s = toZ w64 (ofZ w64 a) in
     omega (arith, held-size (negsuc 0 -ℤ s), abs-minus (negsuc 0) s, held-size a, abs-range a f)
 

@@ -159,9 +159,9 @@ module _ {n : ℕ} {ts ls : List ℕ} {s : List ℤ} (P : Peeled n ts ls s) (bs 
     fan = fanning (P .labelled .sphere) (P .realizer) (named ts) (apex-passed (P .labelled .sphere) (P .realizer) (named ts) a)
 
     -- the label before another, round a triangle across
-    turned : (d c : ℕ) → d < 3 * T → 0 < tri (opp ts d) → label ls (next (opp ts d)) ≡ c → (labelAcross w d < 3)
+    label-before : (d c : ℕ) → d < 3 * T → 0 < tri (opp ts d) → label ls (next (opp ts d)) ≡ c → (labelAcross w d < 3)
         × (c ≡ (labelAcross w d + 1) % 3)
-    turned d c h z e = let k = cycle (P .labelled .sphere) (P .realizer) (named ts) (opp ts d) (P .labelled .sphere .dart d h) z in
+    label-before d c h z e = let k = cycle (P .labelled .sphere) (P .realizer) (named ts) (opp ts d) (P .labelled .sphere .dart d h) z in
         omega (arith, k, e, labelAcross-is d h)
 
     -- the side from p to q
@@ -186,7 +186,7 @@ module _ {n : ℕ} {ts ls : List ℕ} {s : List ℤ} (P : Peeled n ts ls s) (bs 
     ]
 
     above-0-is : Towards ts ls 0 (opp ts p) → above bs w p (org ts p) (org ts q) ≡ slope ts ls bs p
-    above-0-is (inside i x y) = above-by-0 (inside i x y) (omega (arith, turned p 0 (p-in .0) (i .this) x))
+    above-0-is (inside i x y) = above-by-0 (inside i x y) (omega (arith, label-before p 0 (p-in .0) (i .this) x))
     above-0-is (along r x) = above-by-0 (along r x) (omega (arith, past-back p (p-in .0) (p-in .1) r))
 
     above-is : above bs w p (org ts p) (org ts q) ≡ slope ts ls bs p
@@ -209,7 +209,7 @@ module _ {n : ℕ} {ts ls : List ℕ} {s : List ℤ} (P : Peeled n ts ls s) (bs 
     left-2-is : Towards ts ls 2 (opp ts g) → below bs w g 1 (org ts g) (org ts p) ≡ slope ts ls bs g
     unfolding slopeBy
     left-2-is (inside i x y) =
-        sym (below-2 bs w g 1 (org ts g) (org ts p) (omega (arith, turned g 2 (a .below) (i .this) x))) ∙ back 2 g (omega arith) (a .below) (inside i x y)
+        sym (below-2 bs w g 1 (org ts g) (org ts p) (omega (arith, label-before g 2 (a .below) (i .this) x))) ∙ back 2 g (omega arith) (a .below) (inside i x y)
     left-2-is (along r x) = elim (r .outer) [
       | inl e ↦
           let z = rim-two (P .labelled .sphere) (P .realizer) (named ts) (opp ts g) (P .labelled .sphere .dart g (a .below)) e x in
@@ -229,7 +229,7 @@ module _ {n : ℕ} {ts ls : List ℕ} {s : List ℤ} (P : Peeled n ts ls s) (bs 
         ∙ back 1 q (omega arith) (q-in .0) c
 
     right-1-is : Towards ts ls 1 (opp ts q) → below bs w q 0 (org ts g) (org ts q) ≡ slope ts ls bs q
-    right-1-is (inside i x y) = right-by-1 (inside i x y) (omega (arith, turned q 1 (q-in .0) (i .this) x))
+    right-1-is (inside i x y) = right-by-1 (inside i x y) (omega (arith, label-before q 1 (q-in .0) (i .this) x))
     right-1-is (along r x) = right-by-1 (along r x) (omega (arith, past-back q (q-in .0) (q-in .1) r))
 
     right-2-is : Towards ts ls 2 q → below bs w q 0 (org ts g) (org ts q) ≡ slope ts ls bs q

@@ -61,7 +61,7 @@ fn weight_at(weights: &[i64], t: usize) -> i64
     if t == 0 { 0 } else { int64::at(weights, t - 1) }
 }
 
-// the weight of a fan's dart, laid where the new frontier dart starts
+// the weight of a fan's dart, stored at the vertex where the new frontier dart starts
 fn store_weight(triangles: &[u16], weights: &[i64], coordinates: &mut [i64], g: usize)
     requires { ⌜ g < 2 ^ 63 ⌝ }
     ensures { λ r. ⌜ now (coordinates .exit) ≡ storeWeight (now (triangles .entry)) (now (weights .entry)) g (now (coordinates .entry)) ⌝ }
@@ -98,7 +98,7 @@ fn store_fan(
     }
 }
 
-// v keeps the sum on its right, and its fan lays down its weights
+// v keeps the sum on its right, and the weights of its fan are stored
 fn keep_and_store(
     triangles: &[u16],
     weights: &[i64],

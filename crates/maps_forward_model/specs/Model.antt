@@ -33,7 +33,7 @@ copy to from bs = set bs to (getD bs from (pos 0))
 unfoldable pub add : ℕ → ℕ → List ℤ → List ℤ
 add to from bs = set bs to (getD bs to (pos 0) +ℤ getD bs from (pos 0))
 
--- the weight of a fan's dart, laid at the vertex where the new frontier dart starts
+-- the weight of a fan's dart, stored at the vertex where the new frontier dart starts
 unfoldable pub storeWeight : List ℕ → List ℤ → ℕ → List ℤ → List ℤ
 storeWeight ts ws g bs = set bs (wordIndex 1 (org ts (prev g))) (weight ws (tri g))
 
@@ -43,7 +43,7 @@ module _ (ts : List ℕ) (t : Tables) (ws : List ℤ) where
   storeFan zero stop g bs = bs
   storeFan (suc k) stop g bs = cond (eqb (prev g) stop) (storeWeight ts ws g bs) (storeFan k stop (oppositeIn (t .op) (prev g)) (storeWeight ts ws g bs))
 
-  -- v leaves: it keeps the sum on its right, its fan lays down its weights, and the two sums beside it go to the first and the last of them
+  -- v leaves: it keeps the sum on its right, the weights of its fan are stored, and the two sums beside it go to the first and the last of them
   unfoldable pub keptAndStored : ℕ → List ℤ → List ℤ
   keptAndStored v bs = storeFan (length ts) (t .count v) (t .head v) (copy (wordIndex 0 v) (wordIndex 1 (org ts (t .count v))) bs)
 
@@ -124,7 +124,7 @@ add-where bs i c′ i′ j h = go (eqb j i) refl
     go true e = rw (eqb-true j i e) (add-at bs 1 i c′ i′ h)
     go false e = add-off bs (wordIndex 1 i) (wordIndex c′ i′) 1 j (λ q. eqb-false j i e (omega (arith, q))) ∙ sym (+ℤ-idr (coordinate bs 1 j))
 
--- ---- a fan laid down
+-- ---- a fan stored
 
 pub length-storeWeight : (ts : List ℕ) (ws : List ℤ) (g : ℕ) (bs : List ℤ) → length (storeWeight ts ws g bs) ≡ length bs
 unfolding storeWeight
@@ -230,7 +230,7 @@ module _ (ts : List ℕ) (t : Tables) where
   length-propagateAll m zero bs = refl
   length-propagateAll m (suc k) bs = length-propagate (t .mark (2 * (m - suc k) + 1)) (propagateAll ts t m k bs) ∙ length-propagateAll m k bs
 
--- the loop lays down a whole fan, if the words of the darts have their opposites
+-- the loop stores a whole fan, if the words of the darts have their opposites
 module _ (ts : List ℕ) (t : Tables) (ws : List ℤ) {T : ℕ} {o f : ℕ → ℕ} (e′ : ℕ) (twice : (d : ℕ) → d < 3 * T →
     f (f d) ≡ d) (h′ : e′ < 3 * T)
     (words : (d : ℕ) → d < 3 * T → oppositeIn (t .op) d ≡ f d) where

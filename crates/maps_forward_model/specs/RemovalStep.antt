@@ -116,7 +116,7 @@ module _ {n : ℕ} (ts ls : List ℕ) (sph : Sphere n (length ts / 3) (org ts) (
   unfolding accumulate
   accumulate-is = rw count
 
-  -- ---- after the fan is laid down
+  -- ---- after the fan is stored
 
   keptAndStored-0 : (i : ℕ) → i ≢ v → coordinate (keptAndStored ts t ws v bs) 0 i ≡ coordinate bs 0 i
   keptAndStored-0 i h = ap (λ (l : List ℤ). coordinate l 0 i) keptAndStored-is ∙ stores-0 ts ws gs kept i

@@ -1,4 +1,4 @@
--- How repair starts on a peeled mesh: its coordinates are drawn, its words laid out, its preorders built, and the absolute values summed. Assumes nothing.
+-- How repair starts on a peeled mesh: its coordinates are drawn, its words packed, its preorders built, and the absolute values summed. Assumes nothing.
 use Prim.Native.Nat.{ℕ, _+_, _*_, _≤_, _<_}
 use mathlib.Core.Path.{_≡_, sym}
 use mathlib.Core.Bool.{false}
@@ -51,7 +51,7 @@ pub record StartPre (n : ℕ) (ts : List ℕ) (ws bs s : List ℤ) : Type 0 wher
   pub coordinates : length bs ≡ coordinatesLength n
   pub room : 10 * n ≤ length s
 
--- its words can be laid out
+-- its words can be packed
 pub pack-pre : (n : ℕ) (ts ls : List ℕ) (s : List ℤ) → Peeled n ts ls s → 10 * n ≤ length s → PackPre n s × (org ts 0 < n) × (org ts 2 < n)
 pack-pre n ts ls s P room =
     let l = P .labelled in (
@@ -69,7 +69,7 @@ light-is : (ws : List ℤ) → row9 ws ≡ false → totalAbs ws ≤ limit
 unfolding row9
 light-is ws e = ltb-false limit (totalAbs ws) e
 
--- s₁ has the words laid out, s₂ the preorders built as well
+-- s₁ has the words packed, s₂ the preorders built as well
 module _ (n : ℕ) (ts : List ℕ) (s s₁ s₂ : List ℤ) (L : Packed n ts (withRim ts (tablesOf s)) (tablesOf s₁))
     (N : WalksPacked n (withRim ts (tablesOf s)) (tablesOf s₁))
     (preordered : Packed n ts (withRim ts (tablesOf s)) (tablesOf s₁) → WalksPacked n (withRim ts (tablesOf s)) (tablesOf s₁) →

@@ -1,4 +1,4 @@
--- The words that repair lays out in scratch over the tables of the labels stage: four numbers in a word, of a triangle or of a vertex that left; and what is
+-- The words that repair packs into scratch over the tables of the labels stage: four numbers in a word, of a triangle or of a vertex that left; and what is
 -- read back from a word. T is the tables of the labels stage, S what repair has made of them. Assumes nothing.
 use Prim.Native.Nat.{ℕ, _+_, _-_, _*_, _/_, _%_, _<_}
 use mathlib.Core.Path.{_≡_}

@@ -1,4 +1,4 @@
--- A mesh whose words are laid out in scratch for repair: they tell what is bad and by how much it is to be raised, and where the walks go. Assumes nothing.
+-- A mesh whose words are packed into scratch for repair: they tell what is bad and by how much it is to be raised, and where the walks go. Assumes nothing.
 use Prim.Native.Nat.{ℕ, _+_, _-_, _*_, _/_, _≤_, _<_}
 use mathlib.Core.Path.{_≡_, refl, ap}
 use mathlib.Core.List.{List}

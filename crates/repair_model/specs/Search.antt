@@ -1,5 +1,5 @@
 -- The next bad triangle, looked for by number and on the walks of the triangle last raised: the tests and steps that the code makes on scratch and
--- coordinates, that they are the definition's on a mesh laid out for repair, and what a search in order finds. Assumes nothing.
+-- coordinates, that they are the definition's on a mesh packed for repair, and what a search in order finds. Assumes nothing.
 use Prim.Native.Nat.{ℕ, zero, suc, _+_, _-_, _*_, _/_, _≤_, _<_}
 use mathlib.Core.Path.{_≡_, refl, sym, ap, _∙_}
 use mathlib.Core.Logic.{_≢_, inl, inr}
@@ -129,7 +129,7 @@ move-to ts T from0 size0 from1 size1 t w e =
           ]
     ]
 
--- ---- on a mesh that is laid out
+-- ---- on a mesh whose words are packed
 
 module _ (n : ℕ) (ts ls : List ℕ) (T S : Tables) (size : length ts ≡ trianglesLength n) (sph : Sphere n (length ts / 3) (org ts) (opp ts))
     (R : Realizer n (length ts / 3) (org ts) (opp ts) (label ls) (outer ts)) (across-is : (d : ℕ) → d < length ts → oppositeIn (T .op) d ≡ opp ts d)

@@ -1,4 +1,4 @@
--- On a peeled mesh whose words are laid out the preorders can be built, and then it is ready for repair's loop. Assumes nothing.
+-- On a peeled mesh whose words are packed the preorders can be built, and then it is ready for repair's loop. Assumes nothing.
 use Prim.Native.Nat.{ℕ, _+_, _-_, _*_, _/_, _≤_, _<_}
 use mathlib.Core.Path.{_≡_, refl}
 use mathlib.Core.Logic.{_≢_, _⊎_, inl, inr}

@@ -238,7 +238,7 @@ fn build_preorder(n: usize, scratch: &mut [i64], colour: usize, root: usize)
     store_vertices(n, scratch, colour);
 }
 
-// The preorders of both colours. Where the words were laid out over the tables T, and the paths in T lead to v0 and v1, their subtrees are ranges of these.
+// The preorders of both colours. Where the words were packed from the tables T, and the paths in T lead to v0 and v1, their subtrees are ranges of these.
 pub fn build_preorders(n: usize, triangles: &[u16], scratch: &mut [i64])
     requires { ⌜ PreorderPre n (now triangles) (now scratch) ⌝ }
     ensures { λ r. ⌜ ((T : Tables) → Packed n (now (triangles .entry)) T (tablesOf (now (scratch .entry))) → WalksPacked n T (tablesOf (now (scratch .entry))) → RootedForest n (now (triangles .entry)) T →

@@ -339,8 +339,8 @@ module _ {s bs₀ : List ℤ} {steps t : ℕ} {x : ℤ} {bs : List ℤ} {k at : 
 small-start : (bs : List ℤ) → row10 bs ≡ false → Small 0 bs
 small-start bs e = record { small = λ j. omega (arith, range bs e j) }
 
-bit-turned : (v i : ℕ) → bit (eqb v i) ≡ bit (eqb i v)
-bit-turned v i = elim (ℕ-discrete v i) [ yes e ↦ rw (eq-eqb v i e, eq-eqb i v (sym e)) | no d ↦ rw (ne-eqb v i d, ne-eqb i v (λ e. d (sym e))) ]
+bit-swapped : (v i : ℕ) → bit (eqb v i) ≡ bit (eqb i v)
+bit-swapped v i = elim (ℕ-discrete v i) [ yes e ↦ rw (eq-eqb v i e, eq-eqb i v (sym e)) | no d ↦ rw (ne-eqb v i d, ne-eqb i v (λ e. d (sym e))) ]
 
 module _ (n : ℕ) (ts : List ℕ) (s bs : List ℤ) (t : ℕ) (x : ℤ) (Y : UpdatePre n ts s bs t x) where
   pub walk-pre : WalkPre s bs (2 * n - 4) t x
@@ -391,12 +391,12 @@ module _ (n : ℕ) (ts : List ℕ) (s bs : List ℤ) (t : ℕ) (x : ℤ) (Y : Up
             more0 = λ i h.
                 let e : timesMoved 2 (λ j. S .mark (2 * j)) (S .op) (2 * n - 4) t i + bit (eqb v0 i) + 0
                 ≡ timesMoved 2 (λ j. S .mark (2 * j)) (S .op) (2 * n - 4) t i + bit (eqb i (org ts 0)) =
-                omega (arith, bit-turned v0 i, ap (λ (v : ℕ). bit (eqb i v)) e0) in
+                omega (arith, bit-swapped v0 i, ap (λ (v : ℕ). bit (eqb i v)) e0) in
                 A .more 0 i (omega arith) (omega (arith, Y .long)) ∙ ap (λ (m : ℕ). coordinate bs 0 i +ℤ pos m *ℤ x) e;
             more1 = λ i h.
                 let e : timesMoved 1 (S .count) (S .op) (2 * n - 4) t i + 0 + bit (eqb v1 i)
                 ≡ timesMoved 1 (S .count) (S .op) (2 * n - 4) t i + bit (eqb i (org ts 2)) =
-                omega (arith, bit-turned v1 i, ap (λ (v : ℕ). bit (eqb i v)) e1) in
+                omega (arith, bit-swapped v1 i, ap (λ (v : ℕ). bit (eqb i v)) e1) in
                 A .more 1 i (omega arith) (omega (arith, Y .long)) ∙ ap (λ (m : ℕ). coordinate bs 1 i +ℤ pos m *ℤ x) e;
             same2 = λ i h. A .more 2 i (omega arith) (omega (arith, Y .long)) ∙ sym (none (coordinate bs 2 i) x);
           }

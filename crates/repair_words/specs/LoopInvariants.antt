@@ -1,4 +1,4 @@
--- How the code meets the words that a raise reads: their parts, and the two loops that lay them out. Assumes nothing.
+-- How the code meets the words that a raise reads: their parts, and the two loops that pack them. Assumes nothing.
 use Prim.Native.Nat.{ℕ, _+_, _-_, _*_, _/_, _≤_, _<_}
 use mathlib.Core.Path.{_≡_, refl, sym, ap, _∙_}
 use mathlib.Core.Logic.{_≢_, inl, inr}
@@ -117,7 +117,7 @@ pack-pre-withRim n ts s s′ L e v = pack-pre-again n s s′ L e (ap (λ (T : Ta
 
 -- ---- the triangles
 
--- the words of the inner triangles below m are laid out, those of the others are as they were
+-- the words of the inner triangles below m are packed, those of the others are as they were
 pub record TrianglesPacked (n : ℕ) (ts : List ℕ) (T S : Tables) (m : ℕ) : Type 0 where
   pub walks : (t : ℕ) → 0 < t → t < m → S .op (3 * t) ≡ walkWord ts T t
   pub corners : (t : ℕ) → 0 < t → t < m → S .op (3 * t + 1) ≡ cornerWord ts T t

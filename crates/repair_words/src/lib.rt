@@ -220,7 +220,7 @@ fn set_rim(triangles: &[u16], scratch: &mut [i64])
 // all of them
 pub fn pack_words(n: usize, triangles: &[u16], scratch: &mut [i64])
     requires { ⌜ PackPre n (now scratch) × (org (now triangles) 0 < n) × (org (now triangles) 2 < n) ⌝ }
-    ensures laid { λ r. ⌜ Packed n (now (triangles .entry)) (withRim (now (triangles .entry)) (tablesOf (now (scratch .entry)))) (tablesOf (now (scratch .exit))) ⌝ }
+    ensures packed { λ r. ⌜ Packed n (now (triangles .entry)) (withRim (now (triangles .entry)) (tablesOf (now (scratch .entry)))) (tablesOf (now (scratch .exit))) ⌝ }
     ensures walksPacked { λ r. ⌜ WalksPacked n (withRim (now (triangles .entry)) (tablesOf (now (scratch .entry)))) (tablesOf (now (scratch .exit))) ⌝ }
 {
     set_rim(triangles, scratch);

@@ -50,18 +50,18 @@ natural-size t n e = omega (arith, held-size t, ap natAbs e)
 
 -- ---- ± a
 
-turned : (a : ℕ) → a < 2 ^ 53 → pos 0 -ℤ toZ w64 a ≡ negℤ (pos a)
-turned a h = ap (λ (z : ℤ). pos 0 -ℤ z) (toZ-pos w64 {n = a} (omega arith)) ∙ +ℤ-idl (negℤ (pos a))
+negated : (a : ℕ) → a < 2 ^ 53 → pos 0 -ℤ toZ w64 a ≡ negℤ (pos a)
+negated a h = ap (λ (z : ℤ). pos 0 -ℤ z) (toZ-pos w64 {n = a} (omega arith)) ∙ +ℤ-idl (negℤ (pos a))
 
 negative-fits : (a : ℕ) → a < 2 ^ 53 → SFits w64 (negℤ (pos a))
 negative-fits zero h = record { sfits = omega arith }
 negative-fits (suc a) h = record { sfits = omega arith }
 
 pub sign-fits : (a : ℕ) → a < 2 ^ 53 → SFits w64 (pos 0 -ℤ toZ w64 a)
-sign-fits a h = rw (turned a h) (negative-fits a h)
+sign-fits a h = rw (negated a h) (negative-fits a h)
 
 pub sign-below : (s : Bool) (a : ℕ) → a < 2 ^ 53 → s ≡ true → toZ w64 (ofZ w64 (pos 0 -ℤ toZ w64 a)) ≡ signed s a
-sign-below s a h e = toZ-ofZ (sign-fits a h) ∙ turned a h ∙ rw e
+sign-below s a h e = toZ-ofZ (sign-fits a h) ∙ negated a h ∙ rw e
 
 pub sign-above : (s : Bool) (a : ℕ) → a < 2 ^ 53 → s ≡ false → toZ w64 a ≡ signed s a
 sign-above s a h e = toZ-pos w64 {n = a} (omega arith) ∙ rw e

@@ -1,7 +1,7 @@
 -- `int64::magnitude` meets its contract: below 0 the code's -1 - a fits and is one less than the absolute value. Assumes nothing.
 use native.Mathlib.Omega.{arith}
 use mir.Facts.{toZ-ofZ}
-use Rattle.int64.specs.Whole.{below-fits, below-sign, below-one, above, abs-range, size-fits, turned-size}
+use Rattle.int64.specs.Whole.{below-fits, below-sign, below-one, above, abs-range, size-fits, complement-size}
 use Rattle.int64.proofs.magnitude.Statement.{statement}
 use Rattle.int64.proofs.magnitude.Tie as tie
 
@@ -12,7 +12,7 @@ cast-result : tie.Need-cast-result
 cast-result c = search (below-fits, below-sign, toZ-ofZ, size-fits)
 
 add-result : tie.Need-add-result
-add-result c = omega (arith, turned-size (c .before .fits .a))
+add-result c = omega (arith, complement-size (c .before .fits .a))
 
 cast-result-2 : tie.Need-cast-result-2
 cast-result-2 c = search (above, toZ-ofZ, size-fits)
