@@ -45,9 +45,12 @@ pub extern "C" fn forward_c(
     coordinates: &mut [i64],
     scratch: &mut [i64],
 ) -> u64
-    ensures answer { λ r. ⌜ r ≡ numberOf (forwardCall n (now (triangles .entry)) (now (weights .entry)) (now (coordinates .entry)) (now (scratch .entry)) .answer) ⌝ }
-    ensures coordinates { λ r. ⌜ now (coordinates .exit) ≡ forwardCall n (now (triangles .entry)) (now (weights .entry)) (now (coordinates .entry)) (now (scratch .entry)) .coordinates ⌝ }
-    ensures scratch { λ r. ⌜ now (scratch .exit) ≡ forwardCall n (now (triangles .entry)) (now (weights .entry)) (now (coordinates .entry)) (now (scratch .entry)) .scratch ⌝ }
+    ensures answer { λ r. ⌜ r ≡
+        numberOf (forwardCall n (now (triangles .entry)) (now (weights .entry)) (now (coordinates .entry)) (now (scratch .entry)) .answer) ⌝ }
+    ensures coordinates { λ r. ⌜ now (coordinates .exit) ≡
+        forwardCall n (now (triangles .entry)) (now (weights .entry)) (now (coordinates .entry)) (now (scratch .entry)) .coordinates ⌝ }
+    ensures scratch { λ r. ⌜ now (scratch .exit) ≡
+        forwardCall n (now (triangles .entry)) (now (weights .entry)) (now (coordinates .entry)) (now (scratch .entry)) .scratch ⌝ }
 {
     match maps_call::forward(n, triangles, weights, coordinates, scratch) {
         MapAnswer::Written => 0,
@@ -63,9 +66,12 @@ pub extern "C" fn backward_c(
     weights: &mut [i64],
     scratch: &mut [i64],
 ) -> u64
-    ensures answer { λ r. ⌜ r ≡ numberOf (backwardCall n (now (triangles .entry)) (now (coordinates .entry)) (now (weights .entry)) (now (scratch .entry)) .answer) ⌝ }
-    ensures weights { λ r. ⌜ now (weights .exit) ≡ backwardCall n (now (triangles .entry)) (now (coordinates .entry)) (now (weights .entry)) (now (scratch .entry)) .weights ⌝ }
-    ensures scratch { λ r. ⌜ now (scratch .exit) ≡ backwardCall n (now (triangles .entry)) (now (coordinates .entry)) (now (weights .entry)) (now (scratch .entry)) .scratch ⌝ }
+    ensures answer { λ r. ⌜ r ≡
+        numberOf (backwardCall n (now (triangles .entry)) (now (coordinates .entry)) (now (weights .entry)) (now (scratch .entry)) .answer) ⌝ }
+    ensures weights { λ r. ⌜ now (weights .exit) ≡
+        backwardCall n (now (triangles .entry)) (now (coordinates .entry)) (now (weights .entry)) (now (scratch .entry)) .weights ⌝ }
+    ensures scratch { λ r. ⌜ now (scratch .exit) ≡
+        backwardCall n (now (triangles .entry)) (now (coordinates .entry)) (now (weights .entry)) (now (scratch .entry)) .scratch ⌝ }
 {
     match maps_call::backward(n, triangles, coordinates, weights, scratch) {
         MapAnswer::Written => 0,
@@ -83,12 +89,16 @@ pub extern "C" fn repair_c(
     scratch: &mut [i64],
     count: &mut u64,
 ) -> u64
-    ensures answer { λ r. ⌜ r ≡ repairNumber (repairCall n (now (triangles .entry)) (now (weights .entry)) (now (coordinates .entry)) (now (scratch .entry)) .answer) ⌝ }
+    ensures answer { λ r. ⌜ r ≡
+        repairNumber (repairCall n (now (triangles .entry)) (now (weights .entry)) (now (coordinates .entry)) (now (scratch .entry)) .answer) ⌝ }
     ensures count { λ r. ⌜ now (count .exit) ≡ countOf (now (count .entry))
         (repairCall n (now (triangles .entry)) (now (weights .entry)) (now (coordinates .entry)) (now (scratch .entry)) .answer) ⌝ }
-    ensures weights { λ r. ⌜ now (weights .exit) ≡ repairCall n (now (triangles .entry)) (now (weights .entry)) (now (coordinates .entry)) (now (scratch .entry)) .weights ⌝ }
-    ensures coordinates { λ r. ⌜ now (coordinates .exit) ≡ repairCall n (now (triangles .entry)) (now (weights .entry)) (now (coordinates .entry)) (now (scratch .entry)) .coordinates ⌝ }
-    ensures scratch { λ r. ⌜ now (scratch .exit) ≡ repairCall n (now (triangles .entry)) (now (weights .entry)) (now (coordinates .entry)) (now (scratch .entry)) .scratch ⌝ }
+    ensures weights { λ r. ⌜ now (weights .exit) ≡
+        repairCall n (now (triangles .entry)) (now (weights .entry)) (now (coordinates .entry)) (now (scratch .entry)) .weights ⌝ }
+    ensures coordinates { λ r. ⌜ now (coordinates .exit) ≡
+        repairCall n (now (triangles .entry)) (now (weights .entry)) (now (coordinates .entry)) (now (scratch .entry)) .coordinates ⌝ }
+    ensures scratch { λ r. ⌜ now (scratch .exit) ≡
+        repairCall n (now (triangles .entry)) (now (weights .entry)) (now (coordinates .entry)) (now (scratch .entry)) .scratch ⌝ }
 {
     match repair_call::repair(n, triangles, weights, coordinates, scratch) {
         RepairAnswer::Repaired(raises) => {
@@ -114,7 +124,8 @@ pub extern "C" fn snap_points_c(
 ) -> u64
     ensures answer { λ r. ⌜ r ≡ numberOf (snapCall n (now (shares .entry)) scale (now (coordinates .entry)) .answer) ⌝ }
     ensures coordinates { λ r. ⌜ now (coordinates .exit) ≡ snapCall n (now (shares .entry)) scale (now (coordinates .entry)) .coordinates ⌝ }
-    ensures outside { λ r. ⌜ now (outside .exit) ≡ shareOf (now (outside .entry)) (snapCall n (now (shares .entry)) scale (now (coordinates .entry)) .answer) ⌝ }
+    ensures outside { λ r. ⌜ now (outside .exit) ≡
+        shareOf (now (outside .entry)) (snapCall n (now (shares .entry)) scale (now (coordinates .entry)) .answer) ⌝ }
 {
     match snap_call::snap_points(n, shares, scale, coordinates) {
         SnapAnswer::Done => 0,

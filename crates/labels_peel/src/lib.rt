@@ -18,9 +18,13 @@ ghost use Prim.Native.Nat.{_+_, _-_, _/_, _≤_, _<_, _^_, min};
 ghost use lib.ListN.{length};
 ghost use Rattle.scratch_tables.specs.Tables.{tablesOf};
 ghost use Rattle.labels_model.specs.Model.{HasVertex, HasTriangle, Room, HasVertices};
-ghost use Rattle.labels_model.specs.Model.{frontierDegree, blockBound, groupBound, globalBound, storeDegree, setBlockBound, setGroupBound, setGlobalBound, lowerBlockBound, lowerGroupBound, lowerGlobalBound, lowerBounds, setDegree, incrementDegree, decrementDegree};
-ghost use Rattle.labels_model.specs.Model.{countNeighbour, countNeighbours, enterFrontier, dartWord, setLabels, addFrontierDart, passTriangle, passFan, leaveFrontier, removeVertex};
-ghost use Rattle.labels_model.specs.Model.{isRemovable, firstInRange, firstInBlock, firstInBlocks, blockInGroup, firstInGroup, firstRemovable, removeNext, removeAll};
+ghost use Rattle.labels_model.specs.Model.{frontierDegree, blockBound, groupBound, globalBound, storeDegree, setBlockBound, setGroupBound};
+ghost use Rattle.labels_model.specs.Model.{setGlobalBound, lowerBlockBound, lowerGroupBound, lowerGlobalBound, lowerBounds, setDegree, incrementDegree};
+ghost use Rattle.labels_model.specs.Model.{decrementDegree};
+ghost use Rattle.labels_model.specs.Model.{countNeighbour, countNeighbours, enterFrontier, dartWord, setLabels, addFrontierDart, passTriangle, passFan};
+ghost use Rattle.labels_model.specs.Model.{leaveFrontier, removeVertex};
+ghost use Rattle.labels_model.specs.Model.{isRemovable, firstInRange, firstInBlock, firstInBlocks, blockInGroup, firstInGroup, firstRemovable};
+ghost use Rattle.labels_model.specs.Model.{removeNext, removeAll};
 ghost use Rattle.labels_model.specs.Model.{clearDegrees, initDegrees, initFrontier, initLabels, init, peelTables};
 
 // the counter of vertex w, the bound of block b, that of group g, and that of all groups
@@ -344,7 +348,8 @@ fn first_in_block(n: usize, triangles: &[u16], s: &mut [i64], b: usize) -> usize
 // the first block from `from` on and before `end` that has such a vertex
 fn first_in_blocks(n: usize, triangles: &[u16], s: &mut [i64], end: usize, from: usize) -> usize
     requires { ⌜ HasVertices n (length (now s)) × (end ≤ n) ⌝ }
-    ensures { λ r. ⌜ firstInBlocks (now (triangles .entry)) n (end - from) from (tablesOf (now (s .entry))) ≡ record { vertex = r; tables = tablesOf (now (s .exit)) } ⌝ }
+    ensures { λ r. ⌜ firstInBlocks (now (triangles .entry)) n (end - from) from (tablesOf (now (s .entry))) ≡
+        record { vertex = r; tables = tablesOf (now (s .exit)) } ⌝ }
 {
     let mut b = from;
     while b < end {
@@ -382,7 +387,8 @@ fn first_in_group(n: usize, triangles: &[u16], s: &mut [i64], g: usize) -> usize
 // the smallest vertex that can leave, found by groups of blocks from group `from` on
 fn first_removable(n: usize, triangles: &[u16], s: &mut [i64], from: usize) -> usize
     requires { ⌜ HasVertices n (length (now s)) × (0 < n) ⌝ }
-    ensures { λ r. ⌜ firstRemovable (now (triangles .entry)) n (n / 256 + 1 - from) from (tablesOf (now (s .entry))) ≡ record { vertex = r; tables = tablesOf (now (s .exit)) } ⌝ }
+    ensures { λ r. ⌜ firstRemovable (now (triangles .entry)) n (n / 256 + 1 - from) from (tablesOf (now (s .entry))) ≡
+        record { vertex = r; tables = tablesOf (now (s .exit)) } ⌝ }
 {
     let groups = n / 256 + 1;
     let mut g = from;

@@ -118,7 +118,8 @@ pub fn map_rows(
     coordinates: usize,
     scratch: usize,
 ) -> u32
-    ensures { λ r. ⌜ r ≡ firstRows n (slice triangles (trianglesLength n) ∷ slice scratch (scratchLength n) ∷ slice weights (weightsLength n) ∷ slice coordinates (coordinatesLength n) ∷ []) ⌝ }
+    ensures { λ r. ⌜ r ≡ firstRows n (slice triangles (trianglesLength n) ∷ slice scratch (scratchLength n) ∷ slice weights (weightsLength n)
+        ∷ slice coordinates (coordinatesLength n) ∷ []) ⌝ }
 {
     if other_size(n) {
         return 1;

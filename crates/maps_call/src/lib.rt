@@ -33,8 +33,10 @@ fn run_forward(
     scratch: &mut [i64],
 ) -> MapAnswer
     requires { ⌜ Lengths n (length (now triangles)) (length (now scratch)) (length (now weights)) (length (now coordinates)) ⌝ }
-    ensures answer { λ r. ⌜ mapToAnswer r ≡ forwardCall n (now (triangles .entry)) (now (weights .entry)) (now (coordinates .entry)) (now (scratch .entry)) .answer ⌝ }
-    ensures coordinates { λ r. ⌜ now (coordinates .exit) ≡ forwardCall n (now (triangles .entry)) (now (weights .entry)) (now (coordinates .entry)) (now (scratch .entry)) .coordinates ⌝ }
+    ensures answer { λ r. ⌜ mapToAnswer r ≡
+        forwardCall n (now (triangles .entry)) (now (weights .entry)) (now (coordinates .entry)) (now (scratch .entry)) .answer ⌝ }
+    ensures coordinates { λ r. ⌜ now (coordinates .exit) ≡
+        forwardCall n (now (triangles .entry)) (now (weights .entry)) (now (coordinates .entry)) (now (scratch .entry)) .coordinates ⌝ }
 {
     let labelled = label_mesh(n, triangles, scratch);
     let MeshAnswer::Accepted = labelled else {
@@ -55,9 +57,12 @@ pub fn forward(
     coordinates: &mut [i64],
     scratch: &mut [i64],
 ) -> MapAnswer
-    ensures answer { λ r. ⌜ mapToAnswer r ≡ forwardCall n (now (triangles .entry)) (now (weights .entry)) (now (coordinates .entry)) (now (scratch .entry)) .answer ⌝ }
-    ensures coordinates { λ r. ⌜ now (coordinates .exit) ≡ forwardCall n (now (triangles .entry)) (now (weights .entry)) (now (coordinates .entry)) (now (scratch .entry)) .coordinates ⌝ }
-    ensures scratch { λ r. ⌜ now (scratch .exit) ≡ forwardCall n (now (triangles .entry)) (now (weights .entry)) (now (coordinates .entry)) (now (scratch .entry)) .scratch ⌝ }
+    ensures answer { λ r. ⌜ mapToAnswer r ≡
+        forwardCall n (now (triangles .entry)) (now (weights .entry)) (now (coordinates .entry)) (now (scratch .entry)) .answer ⌝ }
+    ensures coordinates { λ r. ⌜ now (coordinates .exit) ≡
+        forwardCall n (now (triangles .entry)) (now (weights .entry)) (now (coordinates .entry)) (now (scratch .entry)) .coordinates ⌝ }
+    ensures scratch { λ r. ⌜ now (scratch .exit) ≡
+        forwardCall n (now (triangles .entry)) (now (weights .entry)) (now (coordinates .entry)) (now (scratch .entry)) .scratch ⌝ }
 {
     let number = map_rows(
         n,
@@ -83,8 +88,10 @@ fn run_backward(
     scratch: &mut [i64],
 ) -> MapAnswer
     requires { ⌜ Lengths n (length (now triangles)) (length (now scratch)) (length (now weights)) (length (now coordinates)) ⌝ }
-    ensures answer { λ r. ⌜ mapToAnswer r ≡ backwardCall n (now (triangles .entry)) (now (coordinates .entry)) (now (weights .entry)) (now (scratch .entry)) .answer ⌝ }
-    ensures weights { λ r. ⌜ now (weights .exit) ≡ backwardCall n (now (triangles .entry)) (now (coordinates .entry)) (now (weights .entry)) (now (scratch .entry)) .weights ⌝ }
+    ensures answer { λ r. ⌜ mapToAnswer r ≡
+        backwardCall n (now (triangles .entry)) (now (coordinates .entry)) (now (weights .entry)) (now (scratch .entry)) .answer ⌝ }
+    ensures weights { λ r. ⌜ now (weights .exit) ≡
+        backwardCall n (now (triangles .entry)) (now (coordinates .entry)) (now (weights .entry)) (now (scratch .entry)) .weights ⌝ }
 {
     let labelled = label_mesh(n, triangles, scratch);
     let MeshAnswer::Accepted = labelled else {
@@ -114,9 +121,12 @@ pub fn backward(
     weights: &mut [i64],
     scratch: &mut [i64],
 ) -> MapAnswer
-    ensures answer { λ r. ⌜ mapToAnswer r ≡ backwardCall n (now (triangles .entry)) (now (coordinates .entry)) (now (weights .entry)) (now (scratch .entry)) .answer ⌝ }
-    ensures weights { λ r. ⌜ now (weights .exit) ≡ backwardCall n (now (triangles .entry)) (now (coordinates .entry)) (now (weights .entry)) (now (scratch .entry)) .weights ⌝ }
-    ensures scratch { λ r. ⌜ now (scratch .exit) ≡ backwardCall n (now (triangles .entry)) (now (coordinates .entry)) (now (weights .entry)) (now (scratch .entry)) .scratch ⌝ }
+    ensures answer { λ r. ⌜ mapToAnswer r ≡
+        backwardCall n (now (triangles .entry)) (now (coordinates .entry)) (now (weights .entry)) (now (scratch .entry)) .answer ⌝ }
+    ensures weights { λ r. ⌜ now (weights .exit) ≡
+        backwardCall n (now (triangles .entry)) (now (coordinates .entry)) (now (weights .entry)) (now (scratch .entry)) .weights ⌝ }
+    ensures scratch { λ r. ⌜ now (scratch .exit) ≡
+        backwardCall n (now (triangles .entry)) (now (coordinates .entry)) (now (weights .entry)) (now (scratch .entry)) .scratch ⌝ }
 {
     let number = map_rows(
         n,

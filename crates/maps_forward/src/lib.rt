@@ -13,7 +13,8 @@ ghost use Rattle.definitions.specs.Repair.{limit};
 ghost use Rattle.definitions.specs.Refusals.{row9};
 ghost use Rattle.scratch_tables.specs.Tables.{tablesOf};
 ghost use Rattle.labels_tables.specs.LabelledTables.{Peeled};
-ghost use Rattle.maps_forward_model.specs.Model.{wordIndex, copy, add, storeWeight, storeFan, keptAndStored, withLeftSum, accumulate, accumulateAll, withCorners, withLeftB1, propagate, propagateAll};
+ghost use Rattle.maps_forward_model.specs.Model.{wordIndex, copy, add, storeWeight, storeFan, keptAndStored, withLeftSum, accumulate, accumulateAll};
+ghost use Rattle.maps_forward_model.specs.Model.{withCorners, withLeftB1, propagate, propagateAll};
 ghost use Rattle.maps_forward_model.specs.Thirds.{ThirdsPre, ThirdsWritten};
 ghost use Rattle.maps_forward_model.specs.RemovalStep.{Room};
 ghost use Rattle.maps_forward_model.specs.Propagate.{Ceiling};
@@ -83,7 +84,8 @@ fn store_fan(
 )
     requires { ⌜ from < 2 ^ 63 ⌝ }
     ensures { λ r. ⌜ now (coordinates .exit) ≡
-        storeFan (now (triangles .entry)) (tablesOf (now (scratch .entry))) (now (weights .entry)) (length (now (triangles .entry))) stop from (now (coordinates .entry)) ⌝ }
+        storeFan (now (triangles .entry)) (tablesOf (now (scratch .entry))) (now (weights .entry)) (length (now (triangles .entry))) stop from
+        (now (coordinates .entry)) ⌝ }
 {
     let mut g = from;
     let mut k = 0;
@@ -107,7 +109,8 @@ fn keep_and_store(
     v: usize,
 )
     requires { ⌜ v < 65536 ⌝ }
-    ensures { λ r. ⌜ now (coordinates .exit) ≡ keptAndStored (now (triangles .entry)) (tablesOf (now (scratch .entry))) (now (weights .entry)) v (now (coordinates .entry)) ⌝ }
+    ensures { λ r. ⌜ now (coordinates .exit) ≡
+        keptAndStored (now (triangles .entry)) (tablesOf (now (scratch .entry))) (now (weights .entry)) v (now (coordinates .entry)) ⌝ }
 {
     let right = labels_tables::right_dart(scratch, v);
     let r = scratch_tables::origin(triangles, right);
@@ -127,7 +130,8 @@ fn add_left_sum(
     v: usize,
 )
     requires { ⌜ (v < 65536) × Room (now triangles) (tablesOf (now scratch)) (now weights) v (now coordinates) ⌝ }
-    ensures { λ r. ⌜ now (coordinates .exit) ≡ withLeftSum (now (triangles .entry)) (tablesOf (now (scratch .entry))) (now (weights .entry)) v (now (coordinates .entry)) ⌝ }
+    ensures { λ r. ⌜ now (coordinates .exit) ≡
+        withLeftSum (now (triangles .entry)) (tablesOf (now (scratch .entry))) (now (weights .entry)) v (now (coordinates .entry)) ⌝ }
 {
     keep_and_store(triangles, weights, coordinates, scratch, v);
     let left = labels_tables::left_dart(scratch, v);
@@ -146,7 +150,8 @@ fn accumulate(
     v: usize,
 )
     requires { ⌜ (v < 65536) × Room (now triangles) (tablesOf (now scratch)) (now weights) v (now coordinates) ⌝ }
-    ensures { λ r. ⌜ now (coordinates .exit) ≡ accumulate (now (triangles .entry)) (tablesOf (now (scratch .entry))) (now (weights .entry)) v (now (coordinates .entry)) ⌝ }
+    ensures { λ r. ⌜ now (coordinates .exit) ≡
+        accumulate (now (triangles .entry)) (tablesOf (now (scratch .entry))) (now (weights .entry)) v (now (coordinates .entry)) ⌝ }
 {
     add_left_sum(triangles, weights, coordinates, scratch, v);
     let right = labels_tables::right_dart(scratch, v);
@@ -167,7 +172,8 @@ fn accumulate_all(
     requires { ⌜ (n < 65536) × ((k : ℕ) → k < n - 2 → (tablesOf (now scratch) .mark (2 * k + 1) < n)
         × Room (now triangles) (tablesOf (now scratch)) (now weights) (tablesOf (now scratch) .mark (2 * k + 1))
         (accumulateAll (now triangles) (tablesOf (now scratch)) (now weights) k (now coordinates))) ⌝ }
-    ensures { λ r. ⌜ now (coordinates .exit) ≡ accumulateAll (now (triangles .entry)) (tablesOf (now (scratch .entry))) (now (weights .entry)) (n - 2) (now (coordinates .entry)) ⌝ }
+    ensures { λ r. ⌜ now (coordinates .exit) ≡
+        accumulateAll (now (triangles .entry)) (tablesOf (now (scratch .entry))) (now (weights .entry)) (n - 2) (now (coordinates .entry)) ⌝ }
 {
     let mut k = 0;
     while k + 2 < n {
@@ -222,7 +228,8 @@ fn propagate_all(n: usize, triangles: &[u16], coordinates: &mut [i64], scratch: 
     requires { ⌜ (n < 65536) × ((k : ℕ) → k < n - 2 → (tablesOf (now scratch) .mark (2 * (n - 2 - suc k) + 1) < n)
         × Ceiling (now triangles) (tablesOf (now scratch)) (tablesOf (now scratch) .mark (2 * (n - 2 - suc k) + 1))
         (propagateAll (now triangles) (tablesOf (now scratch)) (n - 2) k (now coordinates))) ⌝ }
-    ensures { λ r. ⌜ now (coordinates .exit) ≡ propagateAll (now (triangles .entry)) (tablesOf (now (scratch .entry))) (n - 2) (n - 2) (now (coordinates .entry)) ⌝ }
+    ensures { λ r. ⌜ now (coordinates .exit) ≡
+        propagateAll (now (triangles .entry)) (tablesOf (now (scratch .entry))) (n - 2) (n - 2) (now (coordinates .entry)) ⌝ }
 {
     let mut k = 0;
     while k + 2 < n {
@@ -234,8 +241,10 @@ fn propagate_all(n: usize, triangles: &[u16], coordinates: &mut [i64], scratch: 
 
 // the third coordinate of vertex v, where the three sum to `total`
 fn write_third(coordinates: &mut [i64], total: i64, v: usize)
-    requires { ⌜ (v < 65536) × (3 * v + 2 < length (now coordinates)) × (natAbs total ≤ limit) × (natAbs (coordinate (now coordinates) 0 v) ≤ limit) × (natAbs (coordinate (now coordinates) 1 v) ≤ limit) ⌝ }
-    ensures { λ r. ⌜ now (coordinates .exit) ≡ set (now (coordinates .entry)) (3 * v + 2) (total -ℤ coordinate (now (coordinates .entry)) 0 v -ℤ coordinate (now (coordinates .entry)) 1 v) ⌝ }
+    requires { ⌜ (v < 65536) × (3 * v + 2 < length (now coordinates)) × (natAbs total ≤ limit) × (natAbs (coordinate (now coordinates) 0 v) ≤ limit)
+        × (natAbs (coordinate (now coordinates) 1 v) ≤ limit) ⌝ }
+    ensures { λ r. ⌜ now (coordinates .exit) ≡
+        set (now (coordinates .entry)) (3 * v + 2) (total -ℤ coordinate (now (coordinates .entry)) 0 v -ℤ coordinate (now (coordinates .entry)) 1 v) ⌝ }
 {
     let b0 = int64::coordinate_of(coordinates, 0, v);
     let b1 = int64::coordinate_of(coordinates, 1, v);
@@ -246,7 +255,8 @@ fn write_third(coordinates: &mut [i64], total: i64, v: usize)
 // The third coordinate of every vertex, from the two others: the three sum to N, which is coordinate 0 of v0.
 pub fn write_thirds(n: usize, triangles: &[u16], coordinates: &mut [i64])
     requires { ⌜ ThirdsPre n (now triangles) (now coordinates) ⌝ }
-    ensures { λ r. ⌜ ThirdsWritten n (coordinate (now (coordinates .entry)) 0 (org (now (triangles .entry)) 0)) (now (coordinates .entry)) (now (coordinates .exit)) ⌝ }
+    ensures { λ r. ⌜ ThirdsWritten n (coordinate (now (coordinates .entry)) 0 (org (now (triangles .entry)) 0)) (now (coordinates .entry))
+        (now (coordinates .exit)) ⌝ }
 {
     let total = int64::coordinate_of(coordinates, 0, scratch_tables::origin(triangles, 0));
     let mut v = 0;

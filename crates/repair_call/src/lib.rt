@@ -40,7 +40,8 @@ fn run_repair(
     scratch: &mut [i64],
 ) -> RepairAnswer
     requires { ⌜ Lengths n (length (now triangles)) (length (now scratch)) (length (now weights)) (length (now coordinates)) ⌝ }
-    ensures { λ r. ⌜ Given n (now (triangles .entry)) (now (weights .entry)) (now (coordinates .entry)) (now (scratch .entry)) (repairToAnswer r) (now (weights .exit)) (now (coordinates .exit)) ⌝ }
+    ensures { λ r. ⌜ Given n (now (triangles .entry)) (now (weights .entry)) (now (coordinates .entry)) (now (scratch .entry)) (repairToAnswer r)
+        (now (weights .exit)) (now (coordinates .exit)) ⌝ }
 {
     let labelled = label_mesh(n, triangles, scratch);
     let MeshAnswer::Accepted = labelled else {
@@ -62,10 +63,14 @@ pub fn repair(
     coordinates: &mut [i64],
     scratch: &mut [i64],
 ) -> RepairAnswer
-    ensures answer { λ r. ⌜ repairToAnswer r ≡ repairCall n (now (triangles .entry)) (now (weights .entry)) (now (coordinates .entry)) (now (scratch .entry)) .answer ⌝ }
-    ensures weights { λ r. ⌜ now (weights .exit) ≡ repairCall n (now (triangles .entry)) (now (weights .entry)) (now (coordinates .entry)) (now (scratch .entry)) .weights ⌝ }
-    ensures coordinates { λ r. ⌜ now (coordinates .exit) ≡ repairCall n (now (triangles .entry)) (now (weights .entry)) (now (coordinates .entry)) (now (scratch .entry)) .coordinates ⌝ }
-    ensures scratch { λ r. ⌜ now (scratch .exit) ≡ repairCall n (now (triangles .entry)) (now (weights .entry)) (now (coordinates .entry)) (now (scratch .entry)) .scratch ⌝ }
+    ensures answer { λ r. ⌜ repairToAnswer r ≡
+        repairCall n (now (triangles .entry)) (now (weights .entry)) (now (coordinates .entry)) (now (scratch .entry)) .answer ⌝ }
+    ensures weights { λ r. ⌜ now (weights .exit) ≡
+        repairCall n (now (triangles .entry)) (now (weights .entry)) (now (coordinates .entry)) (now (scratch .entry)) .weights ⌝ }
+    ensures coordinates { λ r. ⌜ now (coordinates .exit) ≡
+        repairCall n (now (triangles .entry)) (now (weights .entry)) (now (coordinates .entry)) (now (scratch .entry)) .coordinates ⌝ }
+    ensures scratch { λ r. ⌜ now (scratch .exit) ≡
+        repairCall n (now (triangles .entry)) (now (weights .entry)) (now (coordinates .entry)) (now (scratch .entry)) .scratch ⌝ }
 {
     let number = map_rows(
         n,

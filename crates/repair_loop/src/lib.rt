@@ -1,6 +1,6 @@
-// Repair on a labelled mesh: the coordinates of the lent weights first, then the words that a raise reads and the preorders, then the loop of raises.
-// In the loop coordinates 0 and 1 are those of the weights all the time: a raise moves the subtrees behind the sides that its triangle's walk crosses. The third
-// is written at the end. The sum of the weights' absolute values is kept up to date, so that the raise that would break 9 is not made.
+// Repair on a labelled mesh: the coordinates of the lent weights first, then the words that a raise reads and the preorders, then the loop of raises. In the
+// loop coordinates 0 and 1 are those of the weights all the time: a raise moves the subtrees behind the sides that its triangle's walk crosses. The third is
+// written at the end. The sum of the weights' absolute values is kept up to date, so that the raise that would break 9 is not made.
 ghost use mathlib.Core.Path.{_≡_};
 ghost use mathlib.Core.List.{List};
 ghost use Prim.Native.Nat.{ℕ, _<_, _≤_};
@@ -46,7 +46,8 @@ fn try_raise(
     sum: usize,
 ) -> usize
     requires { ⌜ RaisePre n (now triangles) (now weights) (now coordinates) (now scratch) t sum ⌝ }
-    ensures { λ r. ⌜ Tried n (now (triangles .entry)) (now (scratch .entry)) (now (weights .entry)) (now (coordinates .entry)) (now (weights .exit)) (now (coordinates .exit)) t r ⌝ }
+    ensures { λ r. ⌜ Tried n (now (triangles .entry)) (now (scratch .entry)) (now (weights .entry)) (now (coordinates .entry)) (now (weights .exit))
+        (now (coordinates .exit)) t r ⌝ }
 {
     let x = repair_search::raise_at(coordinates, scratch, t);
     let new = sum_after(weights, t, sum, x);
@@ -77,7 +78,8 @@ fn raise_all(
     sum: usize,
 ) -> Ended
     requires { ⌜ LoopPre n (now triangles) (now weights) (now coordinates) (now scratch) sum ⌝ }
-    ensures { λ r. ⌜ ((ls : List ℕ) → Ready n (now (triangles .entry)) ls (now (scratch .entry)) → now (coordinates .entry) ≡ forward n (now (triangles .entry)) ls (now (weights .entry)) →
+    ensures { λ r. ⌜ ((ls : List ℕ) → Ready n (now (triangles .entry)) ls (now (scratch .entry)) → now (coordinates .entry) ≡
+        forward n (now (triangles .entry)) ls (now (weights .entry)) →
         Halts n (now (triangles .entry)) ls (now (weights .entry)) (now (weights .exit)) (now (coordinates .exit)) r) ⌝ }
 {
     let end = 2 * n - 4;
@@ -109,7 +111,8 @@ pub fn run_loop(
     sum: usize,
 ) -> Ended
     requires { ⌜ LoopPre n (now triangles) (now weights) (now coordinates) (now scratch) sum ⌝ }
-    ensures { λ r. ⌜ ((ls : List ℕ) → Ready n (now (triangles .entry)) ls (now (scratch .entry)) → now (coordinates .entry) ≡ forward n (now (triangles .entry)) ls (now (weights .entry)) →
+    ensures { λ r. ⌜ ((ls : List ℕ) → Ready n (now (triangles .entry)) ls (now (scratch .entry)) → now (coordinates .entry) ≡
+        forward n (now (triangles .entry)) ls (now (weights .entry)) →
         Ends n (now (triangles .entry)) ls (now (weights .entry)) (now (weights .exit)) (now (coordinates .exit)) r) ⌝ }
 {
     let ended = raise_all(n, triangles, weights, coordinates, scratch, sum);

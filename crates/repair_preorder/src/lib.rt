@@ -23,7 +23,8 @@ ghost use lib.ListN.{length};
 ghost use Rattle.scratch_tables.specs.Tables.{Tables, tablesOf, vertexIn, setHead, setMark};
 ghost use Rattle.repair_model.specs.PackedWords.{field0, Packed, WalksPacked};
 ghost use Rattle.repair_model.specs.PreorderWords.{Preordered};
-ghost use Rattle.repair_preorder.specs.Model.{upward, downward, parent, initSize, addSize, allocateRange, withRange, storeRange, clampIndex, storeEntry, storeVertex, sizesComputed, positionsComputed, preorderBuilt};
+ghost use Rattle.repair_preorder.specs.Model.{upward, downward, parent, initSize, addSize, allocateRange, withRange, storeRange, clampIndex};
+ghost use Rattle.repair_preorder.specs.Model.{storeEntry, storeVertex, sizesComputed, positionsComputed, preorderBuilt};
 ghost use Rattle.repair_preorder.specs.LoopInvariants.{PassPre, PreorderPre};
 ghost use Rattle.repair_preorder.specs.RootedForest.{RootedForest};
 
@@ -105,7 +106,8 @@ fn accumulate_sizes(n: usize, scratch: &mut [i64], colour: usize)
 
 // the k-th vertex that left takes its place from the end of what its parent has left
 fn allocate_range(scratch: &mut [i64], colour: usize, k: usize)
-    requires { ⌜ (k < 65536) × (10 * field0 (tablesOf (now scratch) .mark (2 * k + 1)) + 10 ≤ length (now scratch)) × (10 * parent colour (tablesOf (now scratch) .mark (2 * k + 1)) + 10 ≤ length (now scratch)) ⌝ }
+    requires { ⌜ (k < 65536) × (10 * field0 (tablesOf (now scratch) .mark (2 * k + 1)) + 10 ≤ length (now scratch))
+        × (10 * parent colour (tablesOf (now scratch) .mark (2 * k + 1)) + 10 ≤ length (now scratch)) ⌝ }
     ensures { λ r. ⌜ tablesOf (now (scratch .exit)) ≡ allocateRange colour k (tablesOf (now (scratch .entry))) ⌝ }
 {
     let w = removed_at(scratch, k);
@@ -241,7 +243,8 @@ fn build_preorder(n: usize, scratch: &mut [i64], colour: usize, root: usize)
 // The preorders of both colours. Where the words were packed from the tables T, and the paths in T lead to v0 and v1, their subtrees are ranges of these.
 pub fn build_preorders(n: usize, triangles: &[u16], scratch: &mut [i64])
     requires { ⌜ PreorderPre n (now triangles) (now scratch) ⌝ }
-    ensures { λ r. ⌜ ((T : Tables) → Packed n (now (triangles .entry)) T (tablesOf (now (scratch .entry))) → WalksPacked n T (tablesOf (now (scratch .entry))) → RootedForest n (now (triangles .entry)) T →
+    ensures { λ r. ⌜ ((T : Tables) → Packed n (now (triangles .entry)) T (tablesOf (now (scratch .entry))) →
+        WalksPacked n T (tablesOf (now (scratch .entry))) → RootedForest n (now (triangles .entry)) T →
         Preordered n (now (triangles .entry)) T (tablesOf (now (scratch .exit)))) ⌝ }
 {
     let v0 = origin(triangles, 0);

@@ -1,5 +1,5 @@
-// The next bad triangle, looked for in the order of the numbers. After a raise, of those passed only the ones on the raised triangle's three walks are looked at
-// again.
+// The next bad triangle, looked for in the order of the numbers. After a raise, of those passed only the ones on the raised triangle's three walks are looked
+// at again.
 use repair_words::corners_at;
 use repair_words::field0;
 use repair_words::field1;

@@ -1,5 +1,5 @@
-// The subtrees that a raise of triangle t by x moves: the colour-2 walk of t goes from word to word, and each names a range of a preorder. That of colour 0 goes
-// with coordinate 1, that of colour 1 with coordinate 0; v0 and v1 are in no subtree and get theirs in the end.
+// The subtrees that a raise of triangle t by x moves: the colour-2 walk of t goes from word to word, and each names a range of a preorder. That of colour 0
+// goes with coordinate 1, that of colour 1 with coordinate 0; v0 and v1 are in no subtree and get theirs in the end.
 use repair_words::field0;
 use repair_words::field1;
 use repair_words::field2;
@@ -70,7 +70,8 @@ fn add_to_subtree(coordinates: &mut [i64], scratch: &[i64], w: usize, x: i64)
 fn step(coordinates: &mut [i64], scratch: &[i64], t: usize, x: i64) -> usize
     requires { ⌜ (t < 65536) × SubtreePre (now scratch) (now coordinates) (tablesOf (now scratch) .op (3 * t)) x ⌝ }
     ensures next { λ r. ⌜ r ≡ field0 (tablesOf (now (scratch .entry)) .op (3 * t)) ⌝ }
-    ensures moved { λ r. ⌜ SubtreeAdded (now (scratch .entry)) (tablesOf (now (scratch .entry)) .op (3 * t)) x (now (coordinates .entry)) (now (coordinates .exit)) ⌝ }
+    ensures moved { λ r. ⌜ SubtreeAdded (now (scratch .entry)) (tablesOf (now (scratch .entry)) .op (3 * t)) x (now (coordinates .entry))
+        (now (coordinates .exit)) ⌝ }
 {
     let w = walk_at(scratch, t);
     add_to_subtree(coordinates, scratch, w, x);

@@ -15,7 +15,8 @@ ghost use Prim.Native.Nat.{_+_, _-_, _*_, _<_, _≤_, _^_};
 ghost use lib.ListN.{length};
 ghost use Rattle.definitions.specs.Mesh.{org};
 ghost use Rattle.scratch_tables.specs.Tables.{vertexIn, tablesOf, setMark};
-ghost use Rattle.repair_model.specs.PackedWords.{pack, field0, field1, field2, field3, walkDart, withRim, endFlags, walkWord, cornerWord, removedWord, otherWalksWord, Packed, WalksPacked};
+ghost use Rattle.repair_model.specs.PackedWords.{pack, field0, field1, field2, field3, walkDart, withRim, endFlags, walkWord, cornerWord, removedWord};
+ghost use Rattle.repair_model.specs.PackedWords.{otherWalksWord, Packed, WalksPacked};
 ghost use Rattle.repair_words.specs.LoopInvariants.{setWords, PackPre, TrianglesPacked, RemovedPacked};
 
 // the parts of a word
@@ -191,7 +192,8 @@ fn pack_triangles(n: usize, triangles: &[u16], scratch: &mut [i64])
 // the word of the k-th vertex that left
 fn pack_removed(triangles: &[u16], scratch: &mut [i64], k: usize)
     requires { ⌜ (k < 65536) × (10 * k + 10 ≤ length (now scratch)) × (tablesOf (now scratch) .mark (2 * k + 1) < 65536) ⌝ }
-    ensures { λ r. ⌜ tablesOf (now (scratch .exit)) ≡ setMark (2 * k + 1) (removedWord (now (triangles .entry)) (tablesOf (now (scratch .entry))) k) (tablesOf (now (scratch .entry))) ⌝ }
+    ensures { λ r. ⌜ tablesOf (now (scratch .exit)) ≡
+        setMark (2 * k + 1) (removedWord (now (triangles .entry)) (tablesOf (now (scratch .entry))) k) (tablesOf (now (scratch .entry))) ⌝ }
 {
     let w = removed_word(triangles, scratch, k);
     set_mark(scratch, 2 * k + 1, w);
@@ -220,7 +222,8 @@ fn set_rim(triangles: &[u16], scratch: &mut [i64])
 // all of them
 pub fn pack_words(n: usize, triangles: &[u16], scratch: &mut [i64])
     requires { ⌜ PackPre n (now scratch) × (org (now triangles) 0 < n) × (org (now triangles) 2 < n) ⌝ }
-    ensures packed { λ r. ⌜ Packed n (now (triangles .entry)) (withRim (now (triangles .entry)) (tablesOf (now (scratch .entry)))) (tablesOf (now (scratch .exit))) ⌝ }
+    ensures packed { λ r. ⌜ Packed n (now (triangles .entry)) (withRim (now (triangles .entry)) (tablesOf (now (scratch .entry))))
+        (tablesOf (now (scratch .exit))) ⌝ }
     ensures walksPacked { λ r. ⌜ WalksPacked n (withRim (now (triangles .entry)) (tablesOf (now (scratch .entry)))) (tablesOf (now (scratch .exit))) ⌝ }
 {
     set_rim(triangles, scratch);

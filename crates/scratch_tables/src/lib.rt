@@ -6,7 +6,8 @@ ghost use Prim.Native.Nat.{_*_, _<_, _≤_, _^_};
 ghost use lib.ListN.{length, set};
 ghost use lib.IntN.{pos};
 ghost use Rattle.definitions.specs.Mesh.{org, tip, next, prev};
-ghost use Rattle.scratch_tables.specs.Tables.{pastDarts, countStart, markStart, toNatural, wordAt, dartIn, vertexIn, markIn, markAt, tablesOf, setOp, setHead, setCount, setMark, withOp, blank, Cleared};
+ghost use Rattle.scratch_tables.specs.Tables.{pastDarts, countStart, markStart, toNatural, wordAt, dartIn, vertexIn, markIn, markAt, tablesOf};
+ghost use Rattle.scratch_tables.specs.Tables.{setOp, setHead, setCount, setMark, withOp, blank, Cleared};
 
 // the origin of dart d
 pub fn origin(triangles: &[u16], d: usize) -> usize

@@ -52,7 +52,8 @@ fn put_weight(weights: &mut [i64], i: usize, z: i64)
 // `count` lines of triangles, from line 2.
 fn read_triangles(text: &[u8], start: usize, count: usize, triangles: &mut [u16]) -> Lines
     requires { ⌜ 3 * count ≤ length (now triangles) ⌝ }
-    ensures { λ r. ⌜ linesOf r (take (3 * count) (now (triangles .exit))) (now (text .entry)) ≡ flat (readLines triangleLine count 2 (drop start (now (text .entry)))) ⌝ }
+    ensures { λ r. ⌜ linesOf r (take (3 * count) (now (triangles .exit))) (now (text .entry)) ≡
+        flat (readLines triangleLine count 2 (drop start (now (text .entry)))) ⌝ }
 {
     let mut at = start;
     let mut i = 0;
@@ -110,7 +111,8 @@ fn read_body(
     triangles: &mut [u16],
     weights: &mut [i64],
 ) -> Reading
-    requires { ⌜ (3 ≤ n) × (n ≤ mostTextVertices) × (trianglesLength mostTextVertices ≤ length (now triangles)) × (weightsLength mostTextVertices ≤ length (now weights)) ⌝ }
+    requires { ⌜ (3 ≤ n) × (n ≤ mostTextVertices) × (trianglesLength mostTextVertices ≤ length (now triangles))
+        × (weightsLength mostTextVertices ≤ length (now weights)) ⌝ }
     ensures { λ r. ⌜ Comes (now (text .entry)) start n (now (triangles .exit)) (now (weights .exit)) r ⌝ }
 {
     match read_triangles(text, start, 2 * n - 4, &mut *triangles) {
