@@ -24,7 +24,7 @@ use Rattle.mesh_check.specs.Stages.{Lent, Examined, Accepting, accepting-mesh, 
 use Rattle.mesh_check.specs.declared.MeshAnswer.{MeshAnswer}
 use Rattle.mesh_check.specs.declared.MeshAnswer.the-variants.{Accepted, Refused}
 use Rattle.labels_model.specs.Model.{Room, HasVertices, peelTables}
-use Rattle.labels_model.specs.Result.{staged}
+use Rattle.labels_model.specs.Result.{peeled-tables}
 
 -- what the answer says: the mesh is accepted, and scratch holds its labels and the trace of its peeling; or a row has found something
 abbrev pub Labelling : ℕ → List ℕ → List ℤ → MeshAnswer → Type 0
@@ -69,7 +69,7 @@ module _ {n : ℕ} {ts : List ℕ} {words : ℕ} (L : Lent n ts words) where
   -- the stage ends with the labels
   pub labelling : {t : Tables} (A : Accepting n ts t) (s : List ℤ) → tablesOf s ≡ peelTables ts n t → AcceptedMesh n ts
       × Peeled n ts (labels n ts) s
-  labelling {t} A s e = (accepting-mesh L A, staged n ts (accepting-sphere L A) (L .triangles) (L .most) t (A .tables .opposites) s e)
+  labelling {t} A s e = (accepting-mesh L A, peeled-tables n ts (accepting-sphere L A) (L .triangles) (L .most) t (A .tables .opposites) s e)
 
 -- ---- an answer taken apart
 

@@ -70,9 +70,9 @@ part-kept r w m t e x =
 part-other : (r : ℕ → ℕ) (w m : ℕ) (t : Tables) (x : ℕ) → x ≢ w → r (setMark (2 * w) m t .mark (2 * x)) ≡ r (t .mark (2 * x))
 part-other r w m t x h = ap r (mark-other (2 * w) (2 * x) m t (omega arith))
 
-pub near-small : (t : Tables) (w : ℕ) → frontierDegree t w < 65536
+pub degree-small : (t : Tables) (w : ℕ) → frontierDegree t w < 65536
 unfolding frontierDegree
-near-small t w = omega arith
+degree-small t w = omega arith
 
 -- ---- a counter
 
@@ -80,29 +80,29 @@ module _ (w c : ℕ) (t : Tables) where
   abbrev nearWord : ℕ
   nearWord = c + 65536 * (t .mark (2 * w) / 65536)
 
-  pub setNear-beside : Beside t (storeDegree w c t)
+  pub storeDegree-beside : Beside t (storeDegree w c t)
   unfolding storeDegree
-  setNear-beside = mark-beside w nearWord t
+  storeDegree-beside = mark-beside w nearWord t
 
-  pub near-same : c < 65536 → frontierDegree (storeDegree w c t) w ≡ c
+  pub degree-same : c < 65536 → frontierDegree (storeDegree w c t) w ≡ c
   unfolding frontierDegree storeDegree
-  near-same h = omega (arith, mark-same (2 * w) nearWord t)
+  degree-same h = omega (arith, mark-same (2 * w) nearWord t)
 
-  pub near-other : (x : ℕ) → x ≢ w → frontierDegree (storeDegree w c t) x ≡ frontierDegree t x
+  pub degree-other : (x : ℕ) → x ≢ w → frontierDegree (storeDegree w c t) x ≡ frontierDegree t x
   unfolding frontierDegree storeDegree
-  near-other = part-other (λ m. m % 65536) w nearWord t
+  degree-other = part-other (λ m. m % 65536) w nearWord t
 
-  pub setNear-low : c < 65536 → (b : ℕ) → blockBound (storeDegree w c t) b ≡ blockBound t b
+  pub storeDegree-block : c < 65536 → (b : ℕ) → blockBound (storeDegree w c t) b ≡ blockBound t b
   unfolding blockBound storeDegree
-  setNear-low h = part-kept (λ m. m / 65536 % 32) w nearWord t (omega arith)
+  storeDegree-block h = part-kept (λ m. m / 65536 % 32) w nearWord t (omega arith)
 
-  pub setNear-top : c < 65536 → (g : ℕ) → groupBound (storeDegree w c t) g ≡ groupBound t g
+  pub storeDegree-group : c < 65536 → (g : ℕ) → groupBound (storeDegree w c t) g ≡ groupBound t g
   unfolding groupBound storeDegree
-  setNear-top h = part-kept (λ m. m / 2097152 % 32) w nearWord t (omega arith)
+  storeDegree-group h = part-kept (λ m. m / 2097152 % 32) w nearWord t (omega arith)
 
-  pub setNear-root : c < 65536 → globalBound (storeDegree w c t) ≡ globalBound t
+  pub storeDegree-global : c < 65536 → globalBound (storeDegree w c t) ≡ globalBound t
   unfolding globalBound storeDegree
-  setNear-root h = part-kept (λ m. m / 67108864) w nearWord t (omega arith) 0
+  storeDegree-global h = part-kept (λ m. m / 67108864) w nearWord t (omega arith) 0
 
 -- ---- the bound of a block
 
@@ -110,29 +110,29 @@ module _ (b x : ℕ) (t : Tables) where
   abbrev lowWord : ℕ
   lowWord = t .mark (2 * b) % 65536 + 65536 * x + 2097152 * (t .mark (2 * b) / 2097152)
 
-  pub setLow-beside : Beside t (setBlockBound b x t)
+  pub setBlockBound-beside : Beside t (setBlockBound b x t)
   unfolding setBlockBound
-  setLow-beside = mark-beside b lowWord t
+  setBlockBound-beside = mark-beside b lowWord t
 
-  pub low-same : x < 32 → blockBound (setBlockBound b x t) b ≡ x
+  pub blockBound-same : x < 32 → blockBound (setBlockBound b x t) b ≡ x
   unfolding blockBound setBlockBound
-  low-same h = omega (arith, mark-same (2 * b) lowWord t)
+  blockBound-same h = omega (arith, mark-same (2 * b) lowWord t)
 
-  pub low-other : (a : ℕ) → a ≢ b → blockBound (setBlockBound b x t) a ≡ blockBound t a
+  pub blockBound-other : (a : ℕ) → a ≢ b → blockBound (setBlockBound b x t) a ≡ blockBound t a
   unfolding blockBound setBlockBound
-  low-other = part-other (λ m. m / 65536 % 32) b lowWord t
+  blockBound-other = part-other (λ m. m / 65536 % 32) b lowWord t
 
-  pub setLow-near : (w : ℕ) → frontierDegree (setBlockBound b x t) w ≡ frontierDegree t w
+  pub setBlockBound-degree : (w : ℕ) → frontierDegree (setBlockBound b x t) w ≡ frontierDegree t w
   unfolding frontierDegree setBlockBound
-  setLow-near = part-kept (λ m. m % 65536) b lowWord t (omega arith)
+  setBlockBound-degree = part-kept (λ m. m % 65536) b lowWord t (omega arith)
 
-  pub setLow-top : x < 32 → (g : ℕ) → groupBound (setBlockBound b x t) g ≡ groupBound t g
+  pub setBlockBound-group : x < 32 → (g : ℕ) → groupBound (setBlockBound b x t) g ≡ groupBound t g
   unfolding groupBound setBlockBound
-  setLow-top h = part-kept (λ m. m / 2097152 % 32) b lowWord t (omega arith)
+  setBlockBound-group h = part-kept (λ m. m / 2097152 % 32) b lowWord t (omega arith)
 
-  pub setLow-root : x < 32 → globalBound (setBlockBound b x t) ≡ globalBound t
+  pub setBlockBound-global : x < 32 → globalBound (setBlockBound b x t) ≡ globalBound t
   unfolding globalBound setBlockBound
-  setLow-root h = part-kept (λ m. m / 67108864) b lowWord t (omega arith) 0
+  setBlockBound-global h = part-kept (λ m. m / 67108864) b lowWord t (omega arith) 0
 
 -- ---- the bound of a group
 
@@ -140,29 +140,29 @@ module _ (g x : ℕ) (t : Tables) where
   abbrev topWord : ℕ
   topWord = t .mark (2 * g) % 2097152 + 2097152 * x + 67108864 * (t .mark (2 * g) / 67108864)
 
-  pub setTop-beside : Beside t (setGroupBound g x t)
+  pub setGroupBound-beside : Beside t (setGroupBound g x t)
   unfolding setGroupBound
-  setTop-beside = mark-beside g topWord t
+  setGroupBound-beside = mark-beside g topWord t
 
-  pub top-same : x < 32 → groupBound (setGroupBound g x t) g ≡ x
+  pub groupBound-same : x < 32 → groupBound (setGroupBound g x t) g ≡ x
   unfolding groupBound setGroupBound
-  top-same h = omega (arith, mark-same (2 * g) topWord t)
+  groupBound-same h = omega (arith, mark-same (2 * g) topWord t)
 
-  pub top-other : (a : ℕ) → a ≢ g → groupBound (setGroupBound g x t) a ≡ groupBound t a
+  pub groupBound-other : (a : ℕ) → a ≢ g → groupBound (setGroupBound g x t) a ≡ groupBound t a
   unfolding groupBound setGroupBound
-  top-other = part-other (λ m. m / 2097152 % 32) g topWord t
+  groupBound-other = part-other (λ m. m / 2097152 % 32) g topWord t
 
-  pub setTop-near : (w : ℕ) → frontierDegree (setGroupBound g x t) w ≡ frontierDegree t w
+  pub setGroupBound-degree : (w : ℕ) → frontierDegree (setGroupBound g x t) w ≡ frontierDegree t w
   unfolding frontierDegree setGroupBound
-  setTop-near = part-kept (λ m. m % 65536) g topWord t (omega arith)
+  setGroupBound-degree = part-kept (λ m. m % 65536) g topWord t (omega arith)
 
-  pub setTop-low : (b : ℕ) → blockBound (setGroupBound g x t) b ≡ blockBound t b
+  pub setGroupBound-block : (b : ℕ) → blockBound (setGroupBound g x t) b ≡ blockBound t b
   unfolding blockBound setGroupBound
-  setTop-low = part-kept (λ m. m / 65536 % 32) g topWord t (omega arith)
+  setGroupBound-block = part-kept (λ m. m / 65536 % 32) g topWord t (omega arith)
 
-  pub setTop-root : x < 32 → globalBound (setGroupBound g x t) ≡ globalBound t
+  pub setGroupBound-global : x < 32 → globalBound (setGroupBound g x t) ≡ globalBound t
   unfolding globalBound setGroupBound
-  setTop-root h = part-kept (λ m. m / 67108864) g topWord t (omega arith) 0
+  setGroupBound-global h = part-kept (λ m. m / 67108864) g topWord t (omega arith) 0
 
 -- ---- the bound of all groups
 
@@ -170,25 +170,25 @@ module _ (x : ℕ) (t : Tables) where
   abbrev rootWord : ℕ
   rootWord = t .mark (2 * 0) % 67108864 + 67108864 * x
 
-  pub setRoot-beside : Beside t (setGlobalBound x t)
+  pub setGlobalBound-beside : Beside t (setGlobalBound x t)
   unfolding setGlobalBound
-  setRoot-beside = mark-beside 0 rootWord t
+  setGlobalBound-beside = mark-beside 0 rootWord t
 
-  pub root-same : globalBound (setGlobalBound x t) ≡ x
+  pub globalBound-same : globalBound (setGlobalBound x t) ≡ x
   unfolding globalBound setGlobalBound
-  root-same = omega (arith, mark-same (2 * 0) rootWord t)
+  globalBound-same = omega (arith, mark-same (2 * 0) rootWord t)
 
-  pub setRoot-near : (w : ℕ) → frontierDegree (setGlobalBound x t) w ≡ frontierDegree t w
+  pub setGlobalBound-degree : (w : ℕ) → frontierDegree (setGlobalBound x t) w ≡ frontierDegree t w
   unfolding frontierDegree setGlobalBound
-  setRoot-near = part-kept (λ m. m % 65536) 0 rootWord t (omega arith)
+  setGlobalBound-degree = part-kept (λ m. m % 65536) 0 rootWord t (omega arith)
 
-  pub setRoot-low : (b : ℕ) → blockBound (setGlobalBound x t) b ≡ blockBound t b
+  pub setGlobalBound-block : (b : ℕ) → blockBound (setGlobalBound x t) b ≡ blockBound t b
   unfolding blockBound setGlobalBound
-  setRoot-low = part-kept (λ m. m / 65536 % 32) 0 rootWord t (omega arith)
+  setGlobalBound-block = part-kept (λ m. m / 65536 % 32) 0 rootWord t (omega arith)
 
-  pub setRoot-top : (g : ℕ) → groupBound (setGlobalBound x t) g ≡ groupBound t g
+  pub setGlobalBound-group : (g : ℕ) → groupBound (setGlobalBound x t) g ≡ groupBound t g
   unfolding groupBound setGlobalBound
-  setRoot-top = part-kept (λ m. m / 2097152 % 32) 0 rootWord t (omega arith)
+  setGlobalBound-group = part-kept (λ m. m / 2097152 % 32) 0 rootWord t (omega arith)
 
 -- ---- a vertex that may be able to leave
 
@@ -208,81 +208,81 @@ module _ (w : ℕ) (t : Tables) where
   abbrev r : ℕ
   r = min (globalBound t₂) (w / 256)
 
-  pub wake-beside : Beside t (lowerBounds w t)
+  pub lowerBounds-beside : Beside t (lowerBounds w t)
   unfolding lowerBounds lowerBlockBound lowerGroupBound lowerGlobalBound
-  wake-beside = beside-then (setLow-beside (w / 16) m t) (beside-then (setTop-beside (w / 256) l t₁) (setRoot-beside r t₂))
+  lowerBounds-beside = beside-then (setBlockBound-beside (w / 16) m t) (beside-then (setGroupBound-beside (w / 256) l t₁) (setGlobalBound-beside r t₂))
 
-  pub wake-near : (x : ℕ) → frontierDegree (lowerBounds w t) x ≡ frontierDegree t x
+  pub lowerBounds-degree : (x : ℕ) → frontierDegree (lowerBounds w t) x ≡ frontierDegree t x
   unfolding lowerBounds lowerBlockBound lowerGroupBound lowerGlobalBound
-  wake-near x = setRoot-near r t₂ x ∙ setTop-near (w / 256) l t₁ x ∙ setLow-near (w / 16) m t x
+  lowerBounds-degree x = setGlobalBound-degree r t₂ x ∙ setGroupBound-degree (w / 256) l t₁ x ∙ setBlockBound-degree (w / 16) m t x
 
-  low-woken : (b : ℕ) → blockBound (lowerBounds w t) b ≡ blockBound (lowerBlockBound w t) b
+  lowerBounds-block : (b : ℕ) → blockBound (lowerBounds w t) b ≡ blockBound (lowerBlockBound w t) b
   unfolding lowerBounds lowerGroupBound lowerGlobalBound
-  low-woken b = setRoot-low r t₂ b ∙ setTop-low (w / 256) l t₁ b
+  lowerBounds-block b = setGlobalBound-block r t₂ b ∙ setGroupBound-block (w / 256) l t₁ b
 
-  top-woken : (g : ℕ) → groupBound (lowerBounds w t) g ≡ groupBound t₂ g
+  lowerBounds-group : (g : ℕ) → groupBound (lowerBounds w t) g ≡ groupBound t₂ g
   unfolding lowerBounds lowerGlobalBound
-  top-woken g = setRoot-top r t₂ g
+  lowerBounds-group g = setGlobalBound-group r t₂ g
 
-  top-block : (g : ℕ) → groupBound (lowerBlockBound w t) g ≡ groupBound t g
+  lowerBlockBound-group : (g : ℕ) → groupBound (lowerBlockBound w t) g ≡ groupBound t g
   unfolding lowerBlockBound
-  top-block = setLow-top (w / 16) m t (omega arith)
+  lowerBlockBound-group = setBlockBound-group (w / 16) m t (omega arith)
 
-  root-group : globalBound t₂ ≡ globalBound t
+  lowerGroupBound-global : globalBound t₂ ≡ globalBound t
   unfolding lowerBlockBound lowerGroupBound
-  root-group = setTop-root (w / 256) l t₁ (omega arith) ∙ setLow-root (w / 16) m t (omega arith)
+  lowerGroupBound-global = setGroupBound-global (w / 256) l t₁ (omega arith) ∙ setBlockBound-global (w / 16) m t (omega arith)
 
   -- its bounds are not past it, and no bound is higher than before
-  pub low-here : blockBound (lowerBounds w t) (w / 16) ≤ w % 16
+  pub blockBound-here : blockBound (lowerBounds w t) (w / 16) ≤ w % 16
   unfolding lowerBlockBound
-  low-here = omega (arith, low-woken (w / 16), low-same (w / 16) m t (omega arith))
+  blockBound-here = omega (arith, lowerBounds-block (w / 16), blockBound-same (w / 16) m t (omega arith))
 
-  pub low-less : (b : ℕ) → blockBound (lowerBounds w t) b ≤ blockBound t b
+  pub blockBound-less : (b : ℕ) → blockBound (lowerBounds w t) b ≤ blockBound t b
   unfolding lowerBlockBound
-  low-less b =
+  blockBound-less b =
       elim (ℕ-discrete b (w / 16)) [
-        | yes q ↦ rw q (omega (arith, low-woken (w / 16), low-same (w / 16) m t (omega arith)))
-        | no q ↦ omega (arith, low-woken b, low-other (w / 16) m t b q)
+        | yes q ↦ rw q (omega (arith, lowerBounds-block (w / 16), blockBound-same (w / 16) m t (omega arith)))
+        | no q ↦ omega (arith, lowerBounds-block b, blockBound-other (w / 16) m t b q)
       ]
 
-  pub top-here : groupBound (lowerBounds w t) (w / 256) ≤ w / 16 % 16
+  pub groupBound-here : groupBound (lowerBounds w t) (w / 256) ≤ w / 16 % 16
   unfolding lowerGroupBound
-  top-here = omega (arith, top-woken (w / 256), top-same (w / 256) l t₁ (omega arith))
+  groupBound-here = omega (arith, lowerBounds-group (w / 256), groupBound-same (w / 256) l t₁ (omega arith))
 
-  pub top-less : (g : ℕ) → groupBound (lowerBounds w t) g ≤ groupBound t g
+  pub groupBound-less : (g : ℕ) → groupBound (lowerBounds w t) g ≤ groupBound t g
   unfolding lowerGroupBound
-  top-less g =
+  groupBound-less g =
       elim (ℕ-discrete g (w / 256)) [
-        | yes q ↦ rw q (omega (arith, top-woken (w / 256), top-same (w / 256) l t₁ (omega arith), top-block (w / 256)))
-        | no q ↦ omega (arith, top-woken g, top-other (w / 256) l t₁ g q, top-block g)
+        | yes q ↦ rw q (omega (arith, lowerBounds-group (w / 256), groupBound-same (w / 256) l t₁ (omega arith), lowerBlockBound-group (w / 256)))
+        | no q ↦ omega (arith, lowerBounds-group g, groupBound-other (w / 256) l t₁ g q, lowerBlockBound-group g)
       ]
 
-  pub root-here : globalBound (lowerBounds w t) ≤ w / 256
+  pub globalBound-here : globalBound (lowerBounds w t) ≤ w / 256
   unfolding lowerBounds lowerGlobalBound
-  root-here = omega (arith, root-same r t₂)
+  globalBound-here = omega (arith, globalBound-same r t₂)
 
-  pub root-less : globalBound (lowerBounds w t) ≤ globalBound t
+  pub globalBound-less : globalBound (lowerBounds w t) ≤ globalBound t
   unfolding lowerBounds lowerGlobalBound
-  root-less = omega (arith, root-same r t₂, root-group)
+  globalBound-less = omega (arith, globalBound-same r t₂, lowerGroupBound-global)
 
 -- ---- a counter, with the bounds that let its vertex be found
 
 module _ (w c : ℕ) (t : Tables) where
-  pub put-beside : Beside t (setDegree w c t)
+  pub setDegree-beside : Beside t (setDegree w c t)
   unfolding setDegree
-  put-beside =
+  setDegree-beside =
       elim (tested (eqb c 3)) [
-        | inl e ↦ rw e (beside-then (setNear-beside w c t) (wake-beside w (storeDegree w c t)))
-        | inr e ↦ rw e (setNear-beside w c t)
+        | inl e ↦ rw e (beside-then (storeDegree-beside w c t) (lowerBounds-beside w (storeDegree w c t)))
+        | inr e ↦ rw e (storeDegree-beside w c t)
       ]
 
   -- of the counters it is a plain store
-  put-near : (x : ℕ) → frontierDegree (setDegree w c t) x ≡ frontierDegree (storeDegree w c t) x
+  setDegree-degree : (x : ℕ) → frontierDegree (setDegree w c t) x ≡ frontierDegree (storeDegree w c t) x
   unfolding setDegree
-  put-near x = elim (tested (eqb c 3)) [ inl e ↦ rw e (wake-near w (storeDegree w c t) x) | inr e ↦ rw e ]
+  setDegree-degree x = elim (tested (eqb c 3)) [ inl e ↦ rw e (lowerBounds-degree w (storeDegree w c t) x) | inr e ↦ rw e ]
 
-  pub put-same : c < 65536 → frontierDegree (setDegree w c t) w ≡ c
-  put-same h = put-near w ∙ near-same w c t h
+  pub setDegree-same : c < 65536 → frontierDegree (setDegree w c t) w ≡ c
+  setDegree-same h = setDegree-degree w ∙ degree-same w c t h
 
-  pub put-other : (x : ℕ) → x ≢ w → frontierDegree (setDegree w c t) x ≡ frontierDegree t x
-  put-other x h = put-near x ∙ near-other w c t x h
+  pub setDegree-other : (x : ℕ) → x ≢ w → frontierDegree (setDegree w c t) x ≡ frontierDegree t x
+  setDegree-other x h = setDegree-degree x ∙ degree-other w c t x h

@@ -21,7 +21,7 @@ use Rattle.theory_sphere.specs.Rings.{length-rotations}
 use Rattle.theory_sphere.specs.Accept.{sphere-period, sphere-rotations-all, sphere-rotations-distinct, sphere-rotations-in}
 use Rattle.scratch_tables.specs.Tables.{Tables}
 use Rattle.labels_model.specs.Model.{Counted, rotated, frontierDegree, setDegree, incrementDegree, countNeighbour, countNeighbours, enterFrontier}
-use Rattle.labels_model.specs.Counters.{Beside, beside-same, beside-then, Opposed, opposed-beside, put-beside, put-same, put-other}
+use Rattle.labels_model.specs.Counters.{Beside, beside-same, beside-then, Opposed, opposed-beside, setDegree-beside, setDegree-same, setDegree-other}
 use Rattle.labels_model.specs.NeighbourCounts.{tip-is, met, joins, met-add, met-most, joins-none, joins-both}
 
 -- ---- what a table of marks says
@@ -32,49 +32,52 @@ Marked n ts F t = (w : ℕ) → w < n → frontierDegree t w ≡ cond (F w) (suc
 
 -- ---- one more
 
-more-here : (w : ℕ) (t : Tables) → frontierDegree t w < 65535 → frontierDegree (incrementDegree w t) w ≡ frontierDegree t w + 1
+incrementDegree-here : (w : ℕ) (t : Tables) → frontierDegree t w < 65535 → frontierDegree (incrementDegree w t) w ≡ frontierDegree t w + 1
 unfolding incrementDegree
-more-here w t h = rw (lt-ltb (frontierDegree t w) 65535 h) (put-same w (frontierDegree t w + 1) t (omega arith))
+incrementDegree-here w t h = rw (lt-ltb (frontierDegree t w) 65535 h) (setDegree-same w (frontierDegree t w + 1) t (omega arith))
 
-more-else : (w x : ℕ) (t : Tables) → x ≢ w → frontierDegree (incrementDegree w t) x ≡ frontierDegree t x
+incrementDegree-else : (w x : ℕ) (t : Tables) → x ≢ w → frontierDegree (incrementDegree w t) x ≡ frontierDegree t x
 unfolding incrementDegree
-more-else w x t h = elim (tested (ltb (frontierDegree t w) 65535)) [ inl e ↦ rw e (put-other w (frontierDegree t w + 1) t x h) | inr e ↦ rw e ]
+incrementDegree-else w x t h = elim (tested (ltb (frontierDegree t w) 65535)) [ inl e ↦ rw e (setDegree-other w (frontierDegree t w + 1) t x h) | inr e ↦ rw e ]
 
-more-beside : (w : ℕ) (t : Tables) → Beside t (incrementDegree w t)
+incrementDegree-beside : (w : ℕ) (t : Tables) → Beside t (incrementDegree w t)
 unfolding incrementDegree
-more-beside w t = elim (tested (ltb (frontierDegree t w) 65535)) [ inl e ↦ rw e (put-beside w (frontierDegree t w + 1) t) | inr e ↦ rw e (beside-same t) ]
+incrementDegree-beside w t = elim (tested (ltb (frontierDegree t w) 65535)) [
+  | inl e ↦ rw e (setDegree-beside w (frontierDegree t w + 1) t)
+  | inr e ↦ rw e (beside-same t)
+]
 
 pub keep-count : (p : ℕ → Bool) (x : ℕ) (xs : List ℕ) → length (filter p (x ∷ xs)) ≡ cond (p x) 1 0 + length (filter p xs)
 unfolding filter
 keep-count p x xs = elim (tested (p x)) [ inl e ↦ rw e (omega arith) | inr e ↦ rw e (omega arith) ]
 
-meet-beside : (w c : ℕ) (t : Tables) → Beside t (countNeighbour w c t .tables)
+countNeighbour-beside : (w c : ℕ) (t : Tables) → Beside t (countNeighbour w c t .tables)
 unfolding countNeighbour
-meet-beside w c t = elim (tested (ltb 0 (frontierDegree t w))) [ inl e ↦ rw e (more-beside w t) | inr e ↦ rw e (beside-same t) ]
+countNeighbour-beside w c t = elim (tested (ltb 0 (frontierDegree t w))) [ inl e ↦ rw e (incrementDegree-beside w t) | inr e ↦ rw e (beside-same t) ]
 
 module _ (ts : List ℕ) where
-  round-beside : (first k d c : ℕ) (t : Tables) → Beside t (countNeighbours ts first k d c t .tables)
+  countNeighbours-beside : (first k d c : ℕ) (t : Tables) → Beside t (countNeighbours ts first k d c t .tables)
   unfolding countNeighbours
-  round-beside first zero d c t = beside-same t
-  round-beside first (suc k) d c t =
+  countNeighbours-beside first zero d c t = beside-same t
+  countNeighbours-beside first (suc k) d c t =
       let m = countNeighbour (org ts (prev d)) c t in
-      let b = meet-beside (org ts (prev d)) c t in
-      let r = round-beside first k (rotated t d) (m .count) (m .tables) in
+      let b = countNeighbour-beside (org ts (prev d)) c t in
+      let r = countNeighbours-beside first k (rotated t d) (m .count) (m .tables) in
       elim (tested (eqb (rotated t d) first)) [ inl e ↦ rw e b | inr e ↦ rw e (beside-then b r) ]
 
   pub enter-beside : (u d : ℕ) (t : Tables) → Beside t (enterFrontier ts u d t)
   unfolding enterFrontier
   enter-beside u d t =
       let r = countNeighbours ts d (length ts) d 1 t in
-      beside-then (round-beside d (length ts) d 1 t) (put-beside u (r .count) (r .tables))
+      beside-then (countNeighbours-beside d (length ts) d 1 t) (setDegree-beside u (r .count) (r .tables))
 
   -- ---- the walk as a list
 
-  meets : List ℕ → ℕ → Tables → Counted
-  meets [] c t = record { count = c; tables = t }
-  meets (d ∷ ds) c t =
+  countList : List ℕ → ℕ → Tables → Counted
+  countList [] c t = record { count = c; tables = t }
+  countList (d ∷ ds) c t =
       let r = countNeighbour (tip ts d) c t in
-      meets ds (r .count) (r .tables)
+      countList ds (r .count) (r .tables)
 
   -- just the vertices of F have a mark
   record Lit (n : ℕ) (F : ℕ → Bool) (t : Tables) : Type 0 where
@@ -95,16 +98,16 @@ module _ (ts : List ℕ) where
       unfolding countNeighbour
       off e = rw (le-ltb 0 (frontierDegree t (tip ts d)) (omega (arith, L .dark (tip ts d) xn e)))
 
-      meet-marks : (w : ℕ) → w < n → frontierDegree (r .tables) w ≡ frontierDegree t w + cond (F w && eqb (tip ts d) w) 1 0
-      meet-marks w wn =
+      countNeighbour-marks : (w : ℕ) → w < n → frontierDegree (r .tables) w ≡ frontierDegree t w + cond (F w && eqb (tip ts d) w) 1 0
+      countNeighbour-marks w wn =
           elim (tested (F (tip ts d))) [
             | inl e ↦
                 elim (ℕ-discrete (tip ts d) w) [
                   | yes q ↦
                       let f : F w ≡ true = ap F (sym q) ∙ e in
-                      rw (on e, f, eq-eqb (tip ts d) w q, q) (rw q at (more-here (tip ts d) t (small (tip ts d) xn)))
+                      rw (on e, f, eq-eqb (tip ts d) w q, q) (rw q at (incrementDegree-here (tip ts d) t (small (tip ts d) xn)))
                   | no q ↦
-                      let stay = more-else (tip ts d) w t (λ z. q (sym z)) in
+                      let stay = incrementDegree-else (tip ts d) w t (λ z. q (sym z)) in
                       rw (on e, ne-eqb (tip ts d) w q) (elim (tested (F w)) [ inl f ↦ rw f (omega (arith, stay)) | inr f ↦ rw f (omega (arith, stay)) ])
                 ]
             | inr e ↦
@@ -114,41 +117,41 @@ module _ (ts : List ℕ) where
                 ])
           ]
 
-      meet-count : r .count ≡ c + cond (F (tip ts d)) 1 0
-      meet-count = elim (tested (F (tip ts d))) [ inl e ↦ rw (on e, e) | inr e ↦ rw (off e, e) (omega arith) ]
+      countNeighbour-count : r .count ≡ c + cond (F (tip ts d)) 1 0
+      countNeighbour-count = elim (tested (F (tip ts d))) [ inl e ↦ rw (on e, e) | inr e ↦ rw (off e, e) (omega arith) ]
 
-      meet-lit : Lit n F (r .tables)
-      meet-lit =
+      countNeighbour-lit : Lit n F (r .tables)
+      countNeighbour-lit =
           record {
-            light = λ w wn f. omega (arith, meet-marks w wn, L .light w wn f);
-            dark = λ w wn f. meet-marks w wn ∙ rw f (omega (arith, L .dark w wn f));
+            light = λ w wn f. omega (arith, countNeighbour-marks w wn, L .light w wn f);
+            dark = λ w wn f. countNeighbour-marks w wn ∙ rw f (omega (arith, L .dark w wn f));
           }
 
-      meet-small : (w : ℕ) → w < n → frontierDegree (r .tables) w ≤ frontierDegree t w + 1
-      meet-small w wn =
-          omega (arith, meet-marks w wn, most (F w && eqb (tip ts d) w))
+      countNeighbour-small : (w : ℕ) → w < n → frontierDegree (r .tables) w ≤ frontierDegree t w + 1
+      countNeighbour-small w wn =
+          omega (arith, countNeighbour-marks w wn, most (F w && eqb (tip ts d) w))
         where
           most : (b : Bool) → cond b 1 0 ≤ 1
           most true = omega arith
           most false = omega arith
 
     -- the whole list
-    meets-marks : (ds : List ℕ) (c : ℕ) (t : Tables) → Lit n F t → ((d : ℕ) → d ∈ ds → tip ts d < n) →
+    countList-marks : (ds : List ℕ) (c : ℕ) (t : Tables) → Lit n F t → ((d : ℕ) → d ∈ ds → tip ts d < n) →
         ((w : ℕ) → w < n → frontierDegree t w + length ds ≤ 65535)
-        → (meets ds c t .count ≡ c + length (filter (λ d. F (tip ts d)) ds))
-        × ((w : ℕ) → w < n → frontierDegree (meets ds c t .tables) w
+        → (countList ds c t .count ≡ c + length (filter (λ d. F (tip ts d)) ds))
+        × ((w : ℕ) → w < n → frontierDegree (countList ds c t .tables) w
         ≡ frontierDegree t w + cond (F w) (length (filter (λ d. eqb (tip ts d) w) ds)) 0)
-    unfolding meets filter
-    meets-marks [] c t L h small = (omega arith, λ w wn. elim (tested (F w)) [ inl f ↦ rw f (omega arith) | inr f ↦ rw f (omega arith) ])
-    meets-marks (d ∷ ds) c t L h small =
+    unfolding countList filter
+    countList-marks [] c t L h small = (omega arith, λ w wn. elim (tested (F w)) [ inl f ↦ rw f (omega arith) | inr f ↦ rw f (omega arith) ])
+    countList-marks (d ∷ ds) c t L h small =
         let x = h d (List·Memᴰ·head refl) in
         let fits : (w : ℕ) → w < n → frontierDegree t w < 65535 = λ w wn. omega (arith, small w wn) in
         let r = countNeighbour (tip ts d) c t in
-        let ih = meets-marks ds (r .count) (r .tables) (meet-lit t L d c x fits) (λ e m. h e (List·Memᴰ·tail m))
-        (λ w wn. omega (arith, small w wn, meet-small t L d c x fits w wn)) in (
-          omega (arith, ih .0, meet-count t L d c x fits, keep-count (λ d. F (tip ts d)) d ds),
+        let ih = countList-marks ds (r .count) (r .tables) (countNeighbour-lit t L d c x fits) (λ e m. h e (List·Memᴰ·tail m))
+        (λ w wn. omega (arith, small w wn, countNeighbour-small t L d c x fits w wn)) in (
+          omega (arith, ih .0, countNeighbour-count t L d c x fits, keep-count (λ d. F (tip ts d)) d ds),
           λ w wn.
-              let step = meet-marks t L d c x fits w wn in
+              let step = countNeighbour-marks t L d c x fits w wn in
               let rest = ih .1 w wn in
               let count = keep-count (λ d. eqb (tip ts d) w) d ds in
               elim (tested (F w)) [
@@ -175,18 +178,19 @@ module _ (n : ℕ) (ts : List ℕ) (s : Sphere n (length ts / 3) (org ts) (opp t
   tip-turned d h = sym (tip-rot s d h)
 
   -- the walk meets the darts that rotations lead to, up to the first
-  round-meets : (first j k d c : ℕ) (t : Tables) → Opposed ts t → d < 3 * T → 0 < j → j ≤ k → iterate (rot ts) j d ≡ first →
+  countNeighbours-list : (first j k d c : ℕ) (t : Tables) → Opposed ts t → d < 3 * T → 0 < j → j ≤ k → iterate (rot ts) j d ≡ first →
       ((i : ℕ) → 0 < i → i < j → iterate (rot ts) i d ≢ first)
-      → countNeighbours ts first k d c t ≡ meets ts (rotations ts j (rot ts d)) c t
-  unfolding countNeighbours meets rotations iterate
-  round-meets first zero k d c t o h p q e f = absurd (omega arith)
-  round-meets first (suc j) zero d c t o h p q e f = absurd (omega arith)
-  round-meets first (suc zero) (suc k) d c t o h p q e f = rw (eq-eqb (rotated t d) first (turned-is t o d h ∙ e), tip-turned d h)
-  round-meets first (suc (suc j)) (suc k) d c t o h p q e f =
+      → countNeighbours ts first k d c t ≡ countList ts (rotations ts j (rot ts d)) c t
+  unfolding countNeighbours countList rotations iterate
+  countNeighbours-list first zero k d c t o h p q e f = absurd (omega arith)
+  countNeighbours-list first (suc j) zero d c t o h p q e f = absurd (omega arith)
+  countNeighbours-list first (suc zero) (suc k) d c t o h p q e f = rw (eq-eqb (rotated t d) first (turned-is t o d h ∙ e), tip-turned d h)
+  countNeighbours-list first (suc (suc j)) (suc k) d c t o h p q e f =
       let m = turned-is t o d h in
       let r = countNeighbour (tip ts (rot ts d)) c t in
       rw (ne-eqb (rotated t d) first (λ z. f 1 (omega arith) (omega arith) (sym m ∙ z)), m, tip-turned d h)
-      (round-meets first (suc j) k (rot ts d) (r .count) (r .tables) (opposed-beside ts (meet-beside (tip ts (rot ts d)) c t) o) (rot-in d h) (omega arith)
+      (countNeighbours-list first (suc j) k (rot ts d) (r .count) (r .tables)
+      (opposed-beside ts (countNeighbour-beside (tip ts (rot ts d)) c t) o) (rot-in d h) (omega arith)
       (omega arith) e (λ i a b. f (suc i) (omega arith) (omega arith)))
 
   -- so many rotations meet as many darts with a property as there are
@@ -253,13 +257,13 @@ module _ (n : ℕ) (ts : List ℕ) (s : Sphere n (length ts / 3) (org ts) (opp t
         ]
 
     abbrev walk : Counted
-    walk = meets ts ds 1 t
+    walk = countList ts ds 1 t
 
     entered : enterFrontier ts u d t ≡ setDegree u (walk .count) (walk .tables)
     unfolding enterFrontier
     entered =
         let p = sphere-period n ts s (sym len) d h in
-        let e = round-meets d (length (outgoing ts u)) (length ts) d 1 t o h (p .some) (outgoing-few u) (p .back) (p .soonest) in
+        let e = countNeighbours-list d (length (outgoing ts u)) (length ts) d 1 t o h (p .some) (outgoing-few u) (p .back) (p .soonest) in
         ap (λ (x : Counted). setDegree u (x .count) (x .tables)) e
 
     -- the walk meets all darts of u
@@ -271,7 +275,7 @@ module _ (n : ℕ) (ts : List ℕ) (s : Sphere n (length ts / 3) (org ts) (opp t
 
     own : walk .count ≡ suc (met ts F′ u)
     unfolding met
-    own = omega (arith, meets-marks ts n F ds 1 t lit tips small .0, all-met (λ x. F (tip ts x)), met-add ts F u u new, self)
+    own = omega (arith, countList-marks ts n F ds 1 t lit tips small .0, all-met (λ x. F (tip ts x)), met-add ts F u u new, self)
 
     counted : (w : ℕ) → length (filter (λ x. eqb (tip ts x) w) ds) ≡ joins ts u w
     unfolding joins met
@@ -279,7 +283,7 @@ module _ (n : ℕ) (ts : List ℕ) (s : Sphere n (length ts / 3) (org ts) (opp t
 
     other : (w : ℕ) → w < n → frontierDegree (walk .tables) w ≡ cond (F w) (suc (met ts F′ w)) 0
     other w wn =
-        let e = meets-marks ts n F ds 1 t lit tips small .1 w wn in
+        let e = countList-marks ts n F ds 1 t lit tips small .1 w wn in
         elim (tested (F w)) [
           | inl f ↦ rw f (omega (arith, rw f at e, rw f at (M w wn), counted w, joins-both n ts s len w u, met-add ts F u w new))
           | inr f ↦ rw f (omega (arith, rw f at e, rw f at (M w wn)))
@@ -289,6 +293,6 @@ module _ (n : ℕ) (ts : List ℕ) (s : Sphere n (length ts / 3) (org ts) (opp t
     pub enter-marks : Marked n ts F′ (enterFrontier ts u d t)
     enter-marks w wn =
         elim (ℕ-discrete w u) [
-          | yes q ↦ rw (q, entered, eq-eqb u u refl) (put-same u (walk .count) (walk .tables) (omega (arith, own, met-most ts F′ u)) ∙ own)
-          | no q ↦ rw (entered, ne-eqb w u q) (put-other u (walk .count) (walk .tables) w q ∙ other w wn)
+          | yes q ↦ rw (q, entered, eq-eqb u u refl) (setDegree-same u (walk .count) (walk .tables) (omega (arith, own, met-most ts F′ u)) ∙ own)
+          | no q ↦ rw (entered, ne-eqb w u q) (setDegree-other u (walk .count) (walk .tables) w q ∙ other w wn)
         ]

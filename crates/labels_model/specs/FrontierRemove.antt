@@ -14,70 +14,73 @@ use Rattle.laws.specs.Lists.{tested}
 use Rattle.theory_sphere.specs.Sphere.{Sphere}
 use Rattle.scratch_tables.specs.Tables.{Tables, setMark}
 use Rattle.labels_model.specs.Model.{frontierDegree, storeDegree, decrementDegree, leaveFrontier}
-use Rattle.labels_model.specs.Counters.{Beside, beside-then, mark-same, mark-other, near-small, setNear-beside, near-same, near-other, put-beside}
-use Rattle.labels_model.specs.Counters.{put-same, put-other}
+use Rattle.labels_model.specs.Counters.{Beside, beside-then, mark-same, mark-other, degree-small, storeDegree-beside, degree-same, degree-other}
+use Rattle.labels_model.specs.Counters.{setDegree-beside}
+use Rattle.labels_model.specs.Counters.{setDegree-same, setDegree-other}
 use Rattle.labels_model.specs.NeighbourCounts.{met, joins, met-same, met-add, joins-none, joins-both, joins-one}
 use Rattle.labels_model.specs.FrontierInsert.{Marked}
 
-less-same : (w : ℕ) (t : Tables) → frontierDegree (decrementDegree w t) w ≡ frontierDegree t w - 1
+decrementDegree-same : (w : ℕ) (t : Tables) → frontierDegree (decrementDegree w t) w ≡ frontierDegree t w - 1
 unfolding decrementDegree
-less-same w t = put-same w (frontierDegree t w - 1) t (omega (arith, near-small t w))
+decrementDegree-same w t = setDegree-same w (frontierDegree t w - 1) t (omega (arith, degree-small t w))
 
-less-other : (w x : ℕ) (t : Tables) → x ≢ w → frontierDegree (decrementDegree w t) x ≡ frontierDegree t x
+decrementDegree-other : (w x : ℕ) (t : Tables) → x ≢ w → frontierDegree (decrementDegree w t) x ≡ frontierDegree t x
 unfolding decrementDegree
-less-other w x t h = put-other w (frontierDegree t w - 1) t x h
+decrementDegree-other w x t h = setDegree-other w (frontierDegree t w - 1) t x h
 
-less-beside : (w : ℕ) (t : Tables) → Beside t (decrementDegree w t)
+decrementDegree-beside : (w : ℕ) (t : Tables) → Beside t (decrementDegree w t)
 unfolding decrementDegree
-less-beside w t = put-beside w (frontierDegree t w - 1) t
+decrementDegree-beside w t = setDegree-beside w (frontierDegree t w - 1) t
 
 -- what `leaveFrontier` leaves in each place
 module _ (i v left right : ℕ) (t : Tables) where
   abbrev t₂ : Tables
   t₂ = decrementDegree right (decrementDegree left t)
 
-  gone-near : (w : ℕ) → frontierDegree (leaveFrontier i v left right t) w ≡ frontierDegree (storeDegree v 0 t₂) w
+  leaveFrontier-degree : (w : ℕ) → frontierDegree (leaveFrontier i v left right t) w ≡ frontierDegree (storeDegree v 0 t₂) w
   unfolding frontierDegree leaveFrontier
-  gone-near w = ap (λ (m : ℕ). m % 65536) (mark-other (2 * i + 1) (2 * w) v (storeDegree v 0 t₂) (omega arith))
+  leaveFrontier-degree w = ap (λ (m : ℕ). m % 65536) (mark-other (2 * i + 1) (2 * w) v (storeDegree v 0 t₂) (omega arith))
 
-  gone-own : frontierDegree (leaveFrontier i v left right t) v ≡ 0
-  gone-own = gone-near v ∙ near-same v 0 t₂ (omega arith)
+  leaveFrontier-own : frontierDegree (leaveFrontier i v left right t) v ≡ 0
+  leaveFrontier-own = leaveFrontier-degree v ∙ degree-same v 0 t₂ (omega arith)
 
   past : (w : ℕ) → w ≢ v → frontierDegree (leaveFrontier i v left right t) w ≡ frontierDegree t₂ w
-  past w a = gone-near w ∙ near-other v 0 t₂ w a
+  past w a = leaveFrontier-degree w ∙ degree-other v 0 t₂ w a
 
-  gone-other : (w : ℕ) → w ≢ v → w ≢ left → w ≢ right → frontierDegree (leaveFrontier i v left right t) w ≡ frontierDegree t w
-  gone-other w a b c = past w a ∙ less-other right w (decrementDegree left t) c ∙ less-other left w t b
+  leaveFrontier-other : (w : ℕ) → w ≢ v → w ≢ left → w ≢ right → frontierDegree (leaveFrontier i v left right t) w ≡ frontierDegree t w
+  leaveFrontier-other w a b c = past w a ∙ decrementDegree-other right w (decrementDegree left t) c ∙ decrementDegree-other left w t b
 
-  gone-left : left ≢ v → left ≢ right → frontierDegree (leaveFrontier i v left right t) left ≡ frontierDegree t left - 1
-  gone-left a b = past left a ∙ less-other right left (decrementDegree left t) b ∙ less-same left t
+  leaveFrontier-left : left ≢ v → left ≢ right → frontierDegree (leaveFrontier i v left right t) left ≡ frontierDegree t left - 1
+  leaveFrontier-left a b = past left a ∙ decrementDegree-other right left (decrementDegree left t) b ∙ decrementDegree-same left t
 
-  gone-right : right ≢ v → left ≢ right → frontierDegree (leaveFrontier i v left right t) right ≡ frontierDegree t right - 1
-  gone-right a b = past right a ∙ less-same right (decrementDegree left t) ∙ ap (λ (x : ℕ). x - 1) (less-other left right t (λ e. b (sym e)))
+  leaveFrontier-right : right ≢ v → left ≢ right → frontierDegree (leaveFrontier i v left right t) right ≡ frontierDegree t right - 1
+  leaveFrontier-right a b =
+      past right a ∙ decrementDegree-same right (decrementDegree left t)
+      ∙ ap (λ (x : ℕ). x - 1) (decrementDegree-other left right t (λ e. b (sym e)))
 
   -- and in the other tables
   kept : Beside t (storeDegree v 0 t₂)
-  kept = beside-then (less-beside left t) (beside-then (less-beside right (decrementDegree left t)) (setNear-beside v 0 t₂))
+  kept = beside-then (decrementDegree-beside left t) (beside-then (decrementDegree-beside right (decrementDegree left t)) (storeDegree-beside v 0 t₂))
 
-  pub gone-order : leaveFrontier i v left right t .mark (2 * i + 1) ≡ v
+  pub leaveFrontier-order : leaveFrontier i v left right t .mark (2 * i + 1) ≡ v
   unfolding leaveFrontier
-  gone-order = mark-same (2 * i + 1) v (storeDegree v 0 t₂)
+  leaveFrontier-order = mark-same (2 * i + 1) v (storeDegree v 0 t₂)
 
-  pub gone-earlier : (j : ℕ) → j ≢ i → leaveFrontier i v left right t .mark (2 * j + 1) ≡ t .mark (2 * j + 1)
+  pub leaveFrontier-earlier : (j : ℕ) → j ≢ i → leaveFrontier i v left right t .mark (2 * j + 1) ≡ t .mark (2 * j + 1)
   unfolding leaveFrontier
-  gone-earlier j h = mark-other (2 * i + 1) (2 * j + 1) v (storeDegree v 0 t₂) (omega arith) ∙ kept .order j
+  leaveFrontier-earlier j h = mark-other (2 * i + 1) (2 * j + 1) v (storeDegree v 0 t₂) (omega arith) ∙ kept .order j
 
-  pub gone-op : (d : ℕ) → leaveFrontier i v left right t .op d ≡ t .op d
+  pub leaveFrontier-op : (d : ℕ) → leaveFrontier i v left right t .op d ≡ t .op d
   unfolding leaveFrontier setMark
-  gone-op d = kept .ops d
+  leaveFrontier-op d = kept .ops d
 
-  pub gone-head : (w : ℕ) → leaveFrontier i v left right t .head w ≡ t .head w
+  pub leaveFrontier-head : (w : ℕ) → leaveFrontier i v left right t .head w ≡ t .head w
   unfolding leaveFrontier setMark
-  gone-head w = kept .heads w
+  leaveFrontier-head w = kept .heads w
 
-  pub gone-count : (w : ℕ) → leaveFrontier i v left right t .count w ≡ t .count w
+  pub leaveFrontier-count : (w : ℕ) → leaveFrontier i v left right t .count w ≡ t .count w
   unfolding leaveFrontier setMark
-  gone-count w = kept .counts w
+  leaveFrontier-count w = kept .counts w
 
 module _ (n : ℕ) (ts : List ℕ) (s : Sphere n (length ts / 3) (org ts) (opp ts)) (len : 3 * (length ts / 3) ≡ length ts)
     (F : ℕ → Bool) (i v a b : ℕ) (t : Tables) (M : Marked n ts F t) (vF : F v ≡ true)
@@ -115,15 +118,15 @@ module _ (n : ℕ) (ts : List ℕ) (s : Sphere n (length ts / 3) (org ts) (opp t
       joins-both n ts s len w v ∙ joins-none ts v w (λ d h e z.
       elim (only d (omega arith) e (ap F z ∙ f)) [ inl y ↦ p (sym z ∙ y) | inr y ↦ q (sym z ∙ y) ])
 
-  pub gone-marks : Marked n ts F₀ (leaveFrontier i v (tip ts a) (tip ts b) t)
-  gone-marks w wn =
+  pub leaveFrontier-marks : Marked n ts F₀ (leaveFrontier i v (tip ts a) (tip ts b) t)
+  leaveFrontier-marks w wn =
       elim (ℕ-discrete w v) [
-        | yes q ↦ rw (q, F₀-v) (gone-own i v (tip ts a) (tip ts b) t)
+        | yes q ↦ rw (q, F₀-v) (leaveFrontier-own i v (tip ts a) (tip ts b) t)
         | no q ↦
             rw (F₀-other w q) (elim (ℕ-discrete w (tip ts a)) [
               | yes p ↦ rw (p, aF) (omega (
                 arith,
-                gone-left i v (tip ts a) (tip ts b) t la lr,
+                leaveFrontier-left i v (tip ts a) (tip ts b) t la lr,
                 rw aF at (M (tip ts a) an),
                 met-less (tip ts a),
                 close (tip ts a) a ab av refl,
@@ -131,13 +134,13 @@ module _ (n : ℕ) (ts : List ℕ) (s : Sphere n (length ts / 3) (org ts) (opp t
               | no p ↦ elim (ℕ-discrete w (tip ts b)) [
                 | yes r ↦ rw (r, bF) (omega (
                   arith,
-                  gone-right i v (tip ts a) (tip ts b) t ra lr,
+                  leaveFrontier-right i v (tip ts a) (tip ts b) t ra lr,
                   rw bF at (M (tip ts b) bn),
                   met-less (tip ts b),
                   close (tip ts b) b bb bv refl,
                 ))
                 | no r ↦
-                    let same = gone-other i v (tip ts a) (tip ts b) t w q p r in
+                    let same = leaveFrontier-other i v (tip ts a) (tip ts b) t w q p r in
                     elim (tested (F w)) [
                       | inl f ↦ rw f (omega (arith, same, rw f at (M w wn), met-less w, far w f p r))
                       | inr f ↦ rw f (omega (arith, same, rw f at (M w wn)))

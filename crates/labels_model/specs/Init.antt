@@ -29,23 +29,23 @@ use Rattle.labels_model.specs.FrontierInvariant.{on, Stood}
 
 -- ---- the marks are wiped, and nothing else is
 
-wipe-op : (k v : ℕ) (t : Tables) (d : ℕ) → clearDegrees k v t .op d ≡ t .op d
+clearDegrees-op : (k v : ℕ) (t : Tables) (d : ℕ) → clearDegrees k v t .op d ≡ t .op d
 unfolding clearDegrees setMark
-wipe-op zero v t d = refl
-wipe-op (suc k) v t d = wipe-op k (suc v) (setMark (2 * v) 0 t) d
+clearDegrees-op zero v t d = refl
+clearDegrees-op (suc k) v t d = clearDegrees-op k (suc v) (setMark (2 * v) 0 t) d
 
-wipe-beside : (k v : ℕ) (t : Tables) (w : ℕ) → w < v → clearDegrees k v t .mark (2 * w) ≡ t .mark (2 * w)
+clearDegrees-beside : (k v : ℕ) (t : Tables) (w : ℕ) → w < v → clearDegrees k v t .mark (2 * w) ≡ t .mark (2 * w)
 unfolding clearDegrees
-wipe-beside zero v t w h = refl
-wipe-beside (suc k) v t w h = wipe-beside k (suc v) (setMark (2 * v) 0 t) w (omega arith) ∙ mark-other (2 * v) (2 * w) 0 t (omega arith)
+clearDegrees-beside zero v t w h = refl
+clearDegrees-beside (suc k) v t w h = clearDegrees-beside k (suc v) (setMark (2 * v) 0 t) w (omega arith) ∙ mark-other (2 * v) (2 * w) 0 t (omega arith)
 
-wipe-mark : (k v : ℕ) (t : Tables) (w : ℕ) → v ≤ w → w < v + k → clearDegrees k v t .mark (2 * w) ≡ 0
+clearDegrees-mark : (k v : ℕ) (t : Tables) (w : ℕ) → v ≤ w → w < v + k → clearDegrees k v t .mark (2 * w) ≡ 0
 unfolding clearDegrees
-wipe-mark zero v t w h l = absurd (omega arith)
-wipe-mark (suc k) v t w h l =
+clearDegrees-mark zero v t w h l = absurd (omega arith)
+clearDegrees-mark (suc k) v t w h l =
     elim (ℕ-discrete w v) [
-      | yes q ↦ rw q (wipe-beside k (suc v) (setMark (2 * v) 0 t) v (omega arith) ∙ mark-same (2 * v) 0 t)
-      | no q ↦ wipe-mark k (suc v) (setMark (2 * v) 0 t) w (omega arith) (omega arith)
+      | yes q ↦ rw q (clearDegrees-beside k (suc v) (setMark (2 * v) 0 t) v (omega arith) ∙ mark-same (2 * v) 0 t)
+      | no q ↦ clearDegrees-mark k (suc v) (setMark (2 * v) 0 t) w (omega arith) (omega arith)
     ]
 
 module _ (n : ℕ) (ts : List ℕ) (s : Sphere n (length ts / 3) (org ts) (opp ts)) (len : 3 * (length ts / 3) ≡ length ts) (few : length ts < 32000) where
@@ -139,7 +139,7 @@ module _ (n : ℕ) (ts : List ℕ) (s : Sphere n (length ts / 3) (org ts) (opp t
                     mark-other (2 * o 1) (2 * w) 3 b (omega arith) ∙ elim (ℕ-discrete w (o 0)) [
                       | yes p ↦ rw (p, eq-eqb (o 0) (o 0) refl) (mark-same (2 * o 0) 3 a ∙ omega (arith, met0))
                       | no p ↦ rw (ne-eqb w (o 0) p, ne-eqb w (o 1) r, ne-eqb w (o 2) q) (mark-other (2 * o 0) (2 * w) 3 a (omega arith)
-                          ∙ wipe-mark n 0 t w (omega arith) (omega arith))
+                          ∙ clearDegrees-mark n 0 t w (omega arith) (omega arith))
                     ]
               ]
         ]
@@ -166,7 +166,7 @@ module _ (n : ℕ) (ts : List ℕ) (s : Sphere n (length ts / 3) (org ts) (opp t
 
     op₁ : (d : ℕ) → d < length ts → t₁ .op d ≡ opp ts d
     unfolding initDegrees setMark
-    op₁ d h = wipe-op n 0 t d ∙ opposed d h
+    op₁ d h = clearDegrees-op n 0 t d ∙ opposed d h
 
     behind₁ : (d : ℕ) → d < length ts → oppositeIn (t₁ .op) d ≡ opp ts d
     unfolding oppositeIn

@@ -18,10 +18,14 @@ use Rattle.labels_model.specs.Model.{setGlobalBound, lowerBounds, setDeg
 use Rattle.labels_model.specs.Model.{enterFrontier, setLabels, addFrontierDart, passTriangle, passFan, leaveFrontier, removeVertex, isRemovable}
 use Rattle.labels_model.specs.Model.{firstInRange, blockEnd, groupEnd, blockInGroup, firstInBlock, firstInBlocks}
 use Rattle.labels_model.specs.Model.{firstInGroup, firstRemovable}
-use Rattle.labels_model.specs.Counters.{Beside, beside-same, beside-then, mark-other, near-small, near-same, near-other, setNear-low, setNear-top}
-use Rattle.labels_model.specs.Counters.{setNear-root, setLow-beside, low-same, low-other, setLow-near, setLow-top, setLow-root, setTop-beside}
-use Rattle.labels_model.specs.Counters.{top-same, top-other, setTop-near, setTop-low, setTop-root, setRoot-beside, root-same, setRoot-near}
-use Rattle.labels_model.specs.Counters.{setRoot-low, setRoot-top, wake-near, low-here, low-less, top-here, top-less, root-here, root-less}
+use Rattle.labels_model.specs.Counters.{Beside, beside-same, beside-then, mark-other, degree-small, degree-same, degree-other, storeDegree-block}
+use Rattle.labels_model.specs.Counters.{storeDegree-group}
+use Rattle.labels_model.specs.Counters.{storeDegree-global, setBlockBound-beside, blockBound-same, blockBound-other, setBlockBound-degree}
+use Rattle.labels_model.specs.Counters.{setBlockBound-group, setBlockBound-global, setGroupBound-beside}
+use Rattle.labels_model.specs.Counters.{groupBound-same, groupBound-other, setGroupBound-degree, setGroupBound-block, setGroupBound-global}
+use Rattle.labels_model.specs.Counters.{setGlobalBound-beside, globalBound-same, setGlobalBound-degree}
+use Rattle.labels_model.specs.Counters.{setGlobalBound-block, setGlobalBound-group, lowerBounds-degree, blockBound-here, blockBound-less}
+use Rattle.labels_model.specs.Counters.{groupBound-here, groupBound-less, globalBound-here, globalBound-less}
 
 -- ---- the test
 
@@ -70,36 +74,36 @@ module _ (ts : List ℕ) (n : ℕ) where
   pass-marks g m t = elim (tested (ltb g (length ts))) [ inl e ↦ rw e refl | inr e ↦ rw e refl ]
 
   -- a bound moves, but not past a vertex that can leave
-  move-low : (b y : ℕ) (t : Tables) → y < 32 → ((x : ℕ) → x < n → x / 16 ≡ b → isRemovable ts t x ≡ true → y ≤ x % 16) →
+  move-block : (b y : ℕ) (t : Tables) → y < 32 → ((x : ℕ) → x < n → x / 16 ≡ b → isRemovable ts t x ≡ true → y ≤ x % 16) →
       Bounded ts n t → Bounded ts n (setBlockBound b y t)
-  move-low b y t s f B x h c =
-      let could = sym (can-same ts t (setBlockBound b y t) x (setLow-near b y t x)) ∙ c in
+  move-block b y t s f B x h c =
+      let could = sym (can-same ts t (setBlockBound b y t) x (setBlockBound-degree b y t x)) ∙ c in
       let r = B x h could in
-      let k = setLow-top b y t s (x / 256) in
-      let z = setLow-root b y t s in
+      let k = setBlockBound-group b y t s (x / 256) in
+      let z = setBlockBound-global b y t s in
       elim (ℕ-discrete (x / 16) b) [
-        | yes q ↦ omega (arith, ap (blockBound (setBlockBound b y t)) q, low-same b y t s, f x h q could, k, z, r .1, r .2)
-        | no q ↦ omega (arith, low-other b y t (x / 16) q, k, z, r .0, r .1, r .2)
+        | yes q ↦ omega (arith, ap (blockBound (setBlockBound b y t)) q, blockBound-same b y t s, f x h q could, k, z, r .1, r .2)
+        | no q ↦ omega (arith, blockBound-other b y t (x / 16) q, k, z, r .0, r .1, r .2)
       ]
 
-  move-top : (g y : ℕ) (t : Tables) → y < 32 → ((x : ℕ) → x < n → x / 256 ≡ g → isRemovable ts t x ≡ true → y ≤ x / 16 % 16) →
+  move-group : (g y : ℕ) (t : Tables) → y < 32 → ((x : ℕ) → x < n → x / 256 ≡ g → isRemovable ts t x ≡ true → y ≤ x / 16 % 16) →
       Bounded ts n t → Bounded ts n (setGroupBound g y t)
-  move-top g y t s f B x h c =
-      let could = sym (can-same ts t (setGroupBound g y t) x (setTop-near g y t x)) ∙ c in
+  move-group g y t s f B x h c =
+      let could = sym (can-same ts t (setGroupBound g y t) x (setGroupBound-degree g y t x)) ∙ c in
       let r = B x h could in
-      let k = setTop-low g y t (x / 16) in
-      let z = setTop-root g y t s in
+      let k = setGroupBound-block g y t (x / 16) in
+      let z = setGroupBound-global g y t s in
       elim (ℕ-discrete (x / 256) g) [
-        | yes q ↦ omega (arith, ap (groupBound (setGroupBound g y t)) q, top-same g y t s, f x h q could, k, z, r .0, r .2)
-        | no q ↦ omega (arith, top-other g y t (x / 256) q, k, z, r .0, r .1, r .2)
+        | yes q ↦ omega (arith, ap (groupBound (setGroupBound g y t)) q, groupBound-same g y t s, f x h q could, k, z, r .0, r .2)
+        | no q ↦ omega (arith, groupBound-other g y t (x / 256) q, k, z, r .0, r .1, r .2)
       ]
 
-  move-root : (y : ℕ) (t : Tables) → ((x : ℕ) → x < n → isRemovable ts t x ≡ true → y ≤ x / 256) → Bounded ts n t →
+  move-global : (y : ℕ) (t : Tables) → ((x : ℕ) → x < n → isRemovable ts t x ≡ true → y ≤ x / 256) → Bounded ts n t →
       Bounded ts n (setGlobalBound y t)
-  move-root y t f B x h c =
-      let could = sym (can-same ts t (setGlobalBound y t) x (setRoot-near y t x)) ∙ c in
+  move-global y t f B x h c =
+      let could = sym (can-same ts t (setGlobalBound y t) x (setGlobalBound-degree y t x)) ∙ c in
       let r = B x h could in
-      omega (arith, setRoot-low y t (x / 16), setRoot-top y t (x / 256), root-same y t, f x h could, r .0, r .1)
+      omega (arith, setGlobalBound-block y t (x / 16), setGlobalBound-group y t (x / 256), globalBound-same y t, f x h could, r .0, r .1)
 
   -- ---- a counter
 
@@ -110,85 +114,85 @@ module _ (ts : List ℕ) (n : ℕ) where
     others : (x : ℕ) → x < n → x ≢ w → isRemovable ts t₁ x ≡ true → (blockBound t₁ (x / 16) ≤ x % 16)
         × (groupBound t₁ (x / 256) ≤ x / 16 % 16) × (globalBound t₁ ≤ x / 256)
     others x h q e = rw (
-      setNear-low w c t s (x / 16),
-      setNear-top w c t s (x / 256),
-      setNear-root w c t s,
-    ) (B x h (sym (can-same ts t t₁ x (near-other w c t x q)) ∙ e))
+      storeDegree-block w c t s (x / 16),
+      storeDegree-group w c t s (x / 256),
+      storeDegree-global w c t s,
+    ) (B x h (sym (can-same ts t t₁ x (degree-other w c t x q)) ∙ e))
 
     bounded-off : c ≢ 3 → Bounded ts n t₁
     bounded-off k x h e =
         elim (ℕ-discrete x w) [
-          | yes q ↦ absurd (k (sym (near-same w c t s) ∙ ap (frontierDegree t₁) (sym q) ∙ can-true ts t₁ x e .0))
+          | yes q ↦ absurd (k (sym (degree-same w c t s) ∙ ap (frontierDegree t₁) (sym q) ∙ can-true ts t₁ x e .0))
           | no q ↦ others x h q e
         ]
 
     bounded-on : Bounded ts n (lowerBounds w t₁)
     bounded-on x h e =
         elim (ℕ-discrete x w) [
-          | yes q ↦ rw q (low-here w t₁, top-here w t₁, root-here w t₁)
+          | yes q ↦ rw q (blockBound-here w t₁, groupBound-here w t₁, globalBound-here w t₁)
           | no q ↦
-              let r = others x h q (sym (can-same ts t₁ (lowerBounds w t₁) x (wake-near w t₁ x)) ∙ e) in
-              omega (arith, low-less w t₁ (x / 16), top-less w t₁ (x / 256), root-less w t₁, r .0, r .1, r .2)
+              let r = others x h q (sym (can-same ts t₁ (lowerBounds w t₁) x (lowerBounds-degree w t₁ x)) ∙ e) in
+              omega (arith, blockBound-less w t₁ (x / 16), groupBound-less w t₁ (x / 256), globalBound-less w t₁, r .0, r .1, r .2)
         ]
 
-    bounded-put : Bounded ts n (setDegree w c t)
+    bounded-setDegree : Bounded ts n (setDegree w c t)
     unfolding setDegree
-    bounded-put = elim (tested (eqb c 3)) [ inl e ↦ rw e bounded-on | inr e ↦ rw e (bounded-off (eqb-false c 3 e)) ]
+    bounded-setDegree = elim (tested (eqb c 3)) [ inl e ↦ rw e bounded-on | inr e ↦ rw e (bounded-off (eqb-false c 3 e)) ]
 
   -- ---- the work
 
-  bounded-more : (w : ℕ) (t : Tables) → Bounded ts n t → Bounded ts n (incrementDegree w t)
+  bounded-increment : (w : ℕ) (t : Tables) → Bounded ts n t → Bounded ts n (incrementDegree w t)
   unfolding incrementDegree
-  bounded-more w t B =
+  bounded-increment w t B =
       elim (tested (ltb (frontierDegree t w) 65535)) [
-        | inl e ↦ rw e (bounded-put w (frontierDegree t w + 1) t (omega (arith, ltb-true (frontierDegree t w) 65535 e)) B)
+        | inl e ↦ rw e (bounded-setDegree w (frontierDegree t w + 1) t (omega (arith, ltb-true (frontierDegree t w) 65535 e)) B)
         | inr e ↦ rw e B
       ]
 
-  bounded-less : (w : ℕ) (t : Tables) → Bounded ts n t → Bounded ts n (decrementDegree w t)
+  bounded-decrement : (w : ℕ) (t : Tables) → Bounded ts n t → Bounded ts n (decrementDegree w t)
   unfolding decrementDegree
-  bounded-less w t = bounded-put w (frontierDegree t w - 1) t (omega (arith, near-small t w))
+  bounded-decrement w t = bounded-setDegree w (frontierDegree t w - 1) t (omega (arith, degree-small t w))
 
-  bounded-meet : (w c : ℕ) (t : Tables) → Bounded ts n t → Bounded ts n (countNeighbour w c t .tables)
+  bounded-countNeighbour : (w c : ℕ) (t : Tables) → Bounded ts n t → Bounded ts n (countNeighbour w c t .tables)
   unfolding countNeighbour
-  bounded-meet w c t B = elim (tested (ltb 0 (frontierDegree t w))) [ inl e ↦ rw e (bounded-more w t B) | inr e ↦ rw e B ]
+  bounded-countNeighbour w c t B = elim (tested (ltb 0 (frontierDegree t w))) [ inl e ↦ rw e (bounded-increment w t B) | inr e ↦ rw e B ]
 
-  bounded-round : (first k d c : ℕ) (t : Tables) → Bounded ts n t → Bounded ts n (countNeighbours ts first k d c t .tables)
+  bounded-countNeighbours : (first k d c : ℕ) (t : Tables) → Bounded ts n t → Bounded ts n (countNeighbours ts first k d c t .tables)
   unfolding countNeighbours
-  bounded-round first zero d c t B = B
-  bounded-round first (suc k) d c t B =
+  bounded-countNeighbours first zero d c t B = B
+  bounded-countNeighbours first (suc k) d c t B =
       let m = countNeighbour (org ts (prev d)) c t in
-      let B′ = bounded-meet (org ts (prev d)) c t B in
-      let r = bounded-round first k (rotated t d) (m .count) (m .tables) B′ in
+      let B′ = bounded-countNeighbour (org ts (prev d)) c t B in
+      let r = bounded-countNeighbours first k (rotated t d) (m .count) (m .tables) B′ in
       elim (tested (eqb (rotated t d) first)) [ inl e ↦ rw e B′ | inr e ↦ rw e r ]
 
   -- a walk counts one neighbour a rotation at most
-  pub meet-most : (w c : ℕ) (t : Tables) → countNeighbour w c t .count ≤ c + 1
+  pub countNeighbour-most : (w c : ℕ) (t : Tables) → countNeighbour w c t .count ≤ c + 1
   unfolding countNeighbour
-  meet-most w c t = elim (tested (ltb 0 (frontierDegree t w))) [ inl e ↦ rw e (omega arith) | inr e ↦ rw e (omega arith) ]
+  countNeighbour-most w c t = elim (tested (ltb 0 (frontierDegree t w))) [ inl e ↦ rw e (omega arith) | inr e ↦ rw e (omega arith) ]
 
-  round-most : (first k d c : ℕ) (t : Tables) → countNeighbours ts first k d c t .count ≤ c + k
+  countNeighbours-most : (first k d c : ℕ) (t : Tables) → countNeighbours ts first k d c t .count ≤ c + k
   unfolding countNeighbours
-  round-most first zero d c t = omega arith
-  round-most first (suc k) d c t =
+  countNeighbours-most first zero d c t = omega arith
+  countNeighbours-most first (suc k) d c t =
       let m = countNeighbour (org ts (prev d)) c t in
-      let b = meet-most (org ts (prev d)) c t in
-      let r = round-most first k (rotated t d) (m .count) (m .tables) in
+      let b = countNeighbour-most (org ts (prev d)) c t in
+      let r = countNeighbours-most first k (rotated t d) (m .count) (m .tables) in
       elim (tested (eqb (rotated t d) first)) [ inl e ↦ rw e (omega (arith, b)) | inr e ↦ rw e (omega (arith, b, r)) ]
 
   bounded-enter : length ts < 32000 → (u d : ℕ) (t : Tables) → Bounded ts n t → Bounded ts n (enterFrontier ts u d t)
   unfolding enterFrontier
   bounded-enter few u d t B =
       let r = countNeighbours ts d (length ts) d 1 t in
-      bounded-put u (r .count) (r .tables) (omega (arith, round-most d (length ts) d 1 t)) (bounded-round d (length ts) d 1 t B)
+      bounded-setDegree u (r .count) (r .tables) (omega (arith, countNeighbours-most d (length ts) d 1 t)) (bounded-countNeighbours d (length ts) d 1 t B)
 
-  bounded-gone : (i v left right : ℕ) (t : Tables) → Bounded ts n t → Bounded ts n (leaveFrontier i v left right t)
+  bounded-leaveFrontier : (i v left right : ℕ) (t : Tables) → Bounded ts n t → Bounded ts n (leaveFrontier i v left right t)
   unfolding leaveFrontier
-  bounded-gone i v left right t B =
+  bounded-leaveFrontier i v left right t B =
       let t′ = decrementDegree right (decrementDegree left t) in
       bounded-marks (storeDegree v 0 t′) (setMark (2 * i + 1) v (storeDegree v 0 t′))
       (λ x. mark-other (2 * i + 1) (2 * x) v (storeDegree v 0 t′) (omega arith))
-      (bounded-off v 0 t′ (omega arith) (bounded-less right (decrementDegree left t) (bounded-less left t B)) (omega arith))
+      (bounded-off v 0 t′ (omega arith) (bounded-decrement right (decrementDegree left t) (bounded-decrement left t B)) (omega arith))
 
   bounded-fan : length ts < 32000 → (right k g : ℕ) (t : Tables) → Bounded ts n t → Bounded ts n (passFan ts right k g t)
   unfolding passFan
@@ -200,43 +204,43 @@ module _ (ts : List ℕ) (n : ℕ) where
       (bounded-enter few u (prev g) (passTriangle ts g t) B′) in
       elim (tested (eqb u right)) [ inl e ↦ rw e B′ | inr e ↦ rw e r ]
 
-  pub bounded-leave : length ts < 32000 → (i v : ℕ) (t : Tables) → Bounded ts n t → Bounded ts n (removeVertex ts i v t)
+  pub bounded-removeVertex : length ts < 32000 → (i v : ℕ) (t : Tables) → Bounded ts n t → Bounded ts n (removeVertex ts i v t)
   unfolding removeVertex
-  bounded-leave few i v t B =
+  bounded-removeVertex few i v t B =
       let g = t .head v % 65536 in
       let left = tip ts g in
       let right = org ts (t .count v) in
-      bounded-fan few right (length ts) g (leaveFrontier i v left right t) (bounded-gone i v left right t B)
+      bounded-fan few right (length ts) g (leaveFrontier i v left right t) (bounded-leaveFrontier i v left right t B)
 
 -- ---- the search
 
 -- the scan from a vertex up to w finds w; and where none can leave it goes to the end
 module _ (ts : List ℕ) (t : Tables) where
-  scan-finds : (w k x : ℕ) → x ≤ w → w < x + k → isRemovable ts t w ≡ true → ((y : ℕ) → y < w → isRemovable ts t y ≡ false) →
+  firstInRange-finds : (w k x : ℕ) → x ≤ w → w < x + k → isRemovable ts t w ≡ true → ((y : ℕ) → y < w → isRemovable ts t y ≡ false) →
       firstInRange ts t k x ≡ w
   unfolding firstInRange
-  scan-finds w zero x a b c d = absurd (omega arith)
-  scan-finds w (suc k) x a b c d =
+  firstInRange-finds w zero x a b c d = absurd (omega arith)
+  firstInRange-finds w (suc k) x a b c d =
       elim (ℕ-discrete x w) [
         | yes q ↦ rw (q, c)
-        | no q ↦ rw (d x (omega arith)) (scan-finds w k (suc x) (omega arith) (omega arith) c d)
+        | no q ↦ rw (d x (omega arith)) (firstInRange-finds w k (suc x) (omega arith) (omega arith) c d)
       ]
 
-  scan-misses : (k x : ℕ) → ((y : ℕ) → y < x + k → isRemovable ts t y ≡ false) → firstInRange ts t k x ≡ x + k
+  firstInRange-misses : (k x : ℕ) → ((y : ℕ) → y < x + k → isRemovable ts t y ≡ false) → firstInRange ts t k x ≡ x + k
   unfolding firstInRange
-  scan-misses zero x d = omega arith
-  scan-misses (suc k) x d = rw (d x (omega arith)) (scan-misses k (suc x) (λ y h. d y (omega arith)) ∙ omega arith)
+  firstInRange-misses zero x d = omega arith
+  firstInRange-misses (suc k) x d = rw (d x (omega arith)) (firstInRange-misses k (suc x) (λ y h. d y (omega arith)) ∙ omega arith)
 
   -- and it stays between its ends
-  pub scan-least : (k v : ℕ) → v ≤ firstInRange ts t k v
+  pub firstInRange-least : (k v : ℕ) → v ≤ firstInRange ts t k v
   unfolding firstInRange
-  scan-least zero v = omega arith
-  scan-least (suc k) v = elim (tested (isRemovable ts t v)) [ inl e ↦ rw e (omega arith) | inr e ↦ rw e (omega (arith, scan-least k (suc v))) ]
+  firstInRange-least zero v = omega arith
+  firstInRange-least (suc k) v = elim (tested (isRemovable ts t v)) [ inl e ↦ rw e (omega arith) | inr e ↦ rw e (omega (arith, firstInRange-least k (suc v))) ]
 
-  pub scan-most : (k v : ℕ) → firstInRange ts t k v ≤ v + k
+  pub firstInRange-most : (k v : ℕ) → firstInRange ts t k v ≤ v + k
   unfolding firstInRange
-  scan-most zero v = omega arith
-  scan-most (suc k) v = elim (tested (isRemovable ts t v)) [ inl e ↦ rw e (omega arith) | inr e ↦ rw e (omega (arith, scan-most k (suc v))) ]
+  firstInRange-most zero v = omega arith
+  firstInRange-most (suc k) v = elim (tested (isRemovable ts t v)) [ inl e ↦ rw e (omega arith) | inr e ↦ rw e (omega (arith, firstInRange-most k (suc v))) ]
 
 -- the search has found w, and left the tables as they were but for the bounds
 pub record Sought (ts : List ℕ) (n : ℕ) (t : Tables) (w : ℕ) (f : Found) : Type 0 where
@@ -282,56 +286,56 @@ module _ (ts : List ℕ) (n w : ℕ) (wn : w < n) where
     unfolding firstInBlock
     hit q =
         let k : blockBound t b ≤ w % 16 = rw q (l .bounded w wn (l .able) .0) in
-        let f = scan-finds ts t w (blockEnd n b - from) from (omega (arith, k, q)) (omega (arith, k, q, wn)) (l .able) (l .first) in
+        let f = firstInRange-finds ts t w (blockEnd n b - from) from (omega (arith, k, q)) (omega (arith, k, q, wn)) (l .able) (l .first) in
         rw (lt-ltb (blockBound t b) 16 (omega (arith, k)), f)
 
     sought : b ≡ w / 16 → Sought ts n t w (record { vertex = w; tables = setBlockBound b (w - 16 * b) t })
     sought q =
         record {
           here = refl;
-          beside = setLow-beside b (w - 16 * b) t;
-          nears = setLow-near b (w - 16 * b) t;
-          bounded = move-low ts n b (w - 16 * b) t (omega (arith, q))
+          beside = setBlockBound-beside b (w - 16 * b) t;
+          nears = setBlockBound-degree b (w - 16 * b) t;
+          bounded = move-block ts n b (w - 16 * b) t (omega (arith, q))
               (λ x h r c. elim (decLt x w) [ yes k ↦ clash c (l .first x k) | no k ↦ omega (arith, q, r) ]) (l .bounded);
         }
 
     missed : b < w / 16 → Missed ts n (blockEnd n b) t (firstInBlock ts n b t)
     unfolding firstInBlock
     missed q =
-        let f = scan-misses ts t (blockEnd n b - from) from in
+        let f = firstInRange-misses ts t (blockEnd n b - from) from in
         elim (tested (ltb (blockBound t b) 16)) [
           | inl e ↦
               let k = ltb-true (blockBound t b) 16 e in
               let none : (y : ℕ) → y < end → isRemovable ts t y ≡ false = λ y h. l .first y (omega (arith, q, k)) in
               rw (e, f none) (record {
                 past = omega arith;
-                beside = setLow-beside b (end - 16 * b) t;
-                nears = setLow-near b (end - 16 * b) t;
-                bounded = move-low ts n b (end - 16 * b) t (omega (arith, k)) (λ x h r c. clash c (l .first x (omega (arith, q, r)))) (l .bounded);
+                beside = setBlockBound-beside b (end - 16 * b) t;
+                nears = setBlockBound-degree b (end - 16 * b) t;
+                bounded = move-block ts n b (end - 16 * b) t (omega (arith, k)) (λ x h r c. clash c (l .first x (omega (arith, q, r)))) (l .bounded);
               })
           | inr e ↦ rw e (record { past = omega arith; beside = beside-same t; nears = λ x. refl; bounded = l .bounded })
         ]
 
-  find-finds : (k b : ℕ) (t : Tables) → b ≤ w / 16 → w / 16 < b + k → Least t → Sought ts n t w (firstInBlocks ts n k b t)
+  firstInBlocks-finds : (k b : ℕ) (t : Tables) → b ≤ w / 16 → w / 16 < b + k → Least t → Sought ts n t w (firstInBlocks ts n k b t)
   unfolding firstInBlocks
-  find-finds zero b t p q l = absurd (omega arith)
-  find-finds (suc k) b t p q l =
+  firstInBlocks-finds zero b t p q l = absurd (omega arith)
+  firstInBlocks-finds (suc k) b t p q l =
       elim (ℕ-discrete b (w / 16)) [
         | yes e ↦ rw (hit b t l e, lt-ltb w (blockEnd n b) (omega (arith, e, wn))) (sought b t l e)
         | no e ↦
             let m = missed b t l (omega arith) in
             let f = firstInBlock ts n b t in
-            let r = find-finds k (suc b) (f .tables) (omega arith) (omega arith) (least-on (blockEnd n b) t f m l) in
+            let r = firstInBlocks-finds k (suc b) (f .tables) (omega arith) (omega arith) (least-on (blockEnd n b) t f m l) in
             rw (le-ltb (f .vertex) (blockEnd n b) (m .past)) (onward ts n w (blockEnd n b) t f (firstInBlocks ts n k (suc b) (f .tables)) m r)
       ]
 
-  find-misses : (k b : ℕ) (t : Tables) → b + k ≤ w / 16 → Least t → Missed ts n n t (firstInBlocks ts n k b t)
+  firstInBlocks-misses : (k b : ℕ) (t : Tables) → b + k ≤ w / 16 → Least t → Missed ts n n t (firstInBlocks ts n k b t)
   unfolding firstInBlocks
-  find-misses zero b t p l = record { past = omega arith; beside = beside-same t; nears = λ x. refl; bounded = l .bounded }
-  find-misses (suc k) b t p l =
+  firstInBlocks-misses zero b t p l = record { past = omega arith; beside = beside-same t; nears = λ x. refl; bounded = l .bounded }
+  firstInBlocks-misses (suc k) b t p l =
       let m = missed b t l (omega arith) in
       let f = firstInBlock ts n b t in
-      let r = find-misses k (suc b) (f .tables) (omega arith) (least-on (blockEnd n b) t f m l) in
+      let r = firstInBlocks-misses k (suc b) (f .tables) (omega arith) (least-on (blockEnd n b) t f m l) in
       rw (le-ltb (f .vertex) (blockEnd n b) (m .past)) (record {
         past = r .past;
         beside = beside-then (m .beside) (r .beside);
@@ -341,13 +345,13 @@ module _ (ts : List ℕ) (n w : ℕ) (wn : w < n) where
 
   -- ---- a group
 
-  seat-found : (v : ℕ) → v ≡ w → blockInGroup n v ≡ w / 16 % 16
+  blockInGroup-found : (v : ℕ) → v ≡ w → blockInGroup n v ≡ w / 16 % 16
   unfolding blockInGroup
-  seat-found v e = rw (e, lt-ltb w n wn)
+  blockInGroup-found v e = rw (e, lt-ltb w n wn)
 
-  seat-small : (v : ℕ) → blockInGroup n v < 32
+  blockInGroup-small : (v : ℕ) → blockInGroup n v < 32
   unfolding blockInGroup
-  seat-small v = elim (tested (ltb v n)) [ inl e ↦ rw e (omega arith) | inr e ↦ rw e (omega arith) ]
+  blockInGroup-small v = elim (tested (ltb v n)) [ inl e ↦ rw e (omega arith) | inr e ↦ rw e (omega arith) ]
 
   module _ (g : ℕ) (t : Tables) (l : Least t) where
     abbrev start : ℕ
@@ -363,13 +367,13 @@ module _ (ts : List ℕ) (n w : ℕ) (wn : w < n) where
     unfolding firstInGroup
     found q =
         let k : groupBound t g ≤ w / 16 % 16 = rw q (l .bounded w wn (l .able) .1) in
-        let r = find-finds (groupEnd n g - start) start t (omega (arith, k, q)) (omega (arith, k, q, wn)) l in
-        let at : y ≡ w / 16 % 16 = seat-found (f .vertex) (r .here) in
+        let r = firstInBlocks-finds (groupEnd n g - start) start t (omega (arith, k, q)) (omega (arith, k, q, wn)) l in
+        let at : y ≡ w / 16 % 16 = blockInGroup-found (f .vertex) (r .here) in
         rw (lt-ltb (groupBound t g) 16 (omega (arith, k))) (record {
           here = r .here;
-          beside = beside-then (r .beside) (setTop-beside g y (f .tables));
-          nears = λ x. setTop-near g y (f .tables) x ∙ r .nears x;
-          bounded = move-top ts n g y (f .tables) (seat-small (f .vertex)) (λ x h e c.
+          beside = beside-then (r .beside) (setGroupBound-beside g y (f .tables));
+          nears = λ x. setGroupBound-degree g y (f .tables) x ∙ r .nears x;
+          bounded = move-group ts n g y (f .tables) (blockInGroup-small (f .vertex)) (λ x h e c.
               elim (decLt x w) [
                 | yes k ↦ clash c (can-same ts t (f .tables) x (r .nears x) ∙ l .first x k)
                 | no k ↦ omega (arith, q, e, at)
@@ -382,27 +386,27 @@ module _ (ts : List ℕ) (n w : ℕ) (wn : w < n) where
         elim (tested (ltb (groupBound t g) 16)) [
           | inl e ↦
               let k = ltb-true (groupBound t g) 16 e in
-              let m = find-misses (groupEnd n g - start) start t (omega (arith, k, q)) l in
+              let m = firstInBlocks-misses (groupEnd n g - start) start t (omega (arith, k, q)) l in
               rw e (record {
                 past = m .past;
-                beside = beside-then (m .beside) (setTop-beside g y (f .tables));
-                nears = λ x. setTop-near g y (f .tables) x ∙ m .nears x;
-                bounded = move-top ts n g y (f .tables) (seat-small (f .vertex))
+                beside = beside-then (m .beside) (setGroupBound-beside g y (f .tables));
+                nears = λ x. setGroupBound-degree g y (f .tables) x ∙ m .nears x;
+                bounded = move-group ts n g y (f .tables) (blockInGroup-small (f .vertex))
                     (λ x h r c. clash c (can-same ts t (f .tables) x (m .nears x) ∙ l .first x (omega (arith, q, r)))) (m .bounded);
               })
           | inr e ↦ rw e (record { past = omega arith; beside = beside-same t; nears = λ x. refl; bounded = l .bounded })
         ]
 
-  seek-finds : (k g : ℕ) (t : Tables) → g ≤ w / 256 → w / 256 < g + k → Least t → Sought ts n t w (firstRemovable ts n k g t)
+  firstRemovable-finds : (k g : ℕ) (t : Tables) → g ≤ w / 256 → w / 256 < g + k → Least t → Sought ts n t w (firstRemovable ts n k g t)
   unfolding firstRemovable
-  seek-finds zero g t p q l = absurd (omega arith)
-  seek-finds (suc k) g t p q l =
+  firstRemovable-finds zero g t p q l = absurd (omega arith)
+  firstRemovable-finds (suc k) g t p q l =
       let f = firstInGroup ts n g t in
       elim (ℕ-discrete g (w / 256)) [
         | yes e ↦ let r = found g t l e in rw (lt-ltb (f .vertex) n (omega (arith, r .here, wn))) r
         | no e ↦
             let m = none g t l (omega arith) in
-            let r = seek-finds k (suc g) (f .tables) (omega arith) (omega arith) (least-on n t f m l) in
+            let r = firstRemovable-finds k (suc g) (f .tables) (omega arith) (omega arith) (least-on n t f m l) in
             rw (le-ltb (f .vertex) n (m .past)) (onward ts n w n t f (firstRemovable ts n k (suc g) (f .tables)) m r)
       ]
 
@@ -414,7 +418,7 @@ module _ (ts : List ℕ) (n w : ℕ) (wn : w < n) where
     at-last : Sought ts n t w a
     at-last =
         let k = B w wn able .2 in
-        seek-finds (n / 256 + 1 - globalBound t) (globalBound t) t k (omega (arith, k, wn)) (record { bounded = B; able = able; first = first })
+        firstRemovable-finds (n / 256 + 1 - globalBound t) (globalBound t) t k (omega (arith, k, wn)) (record { bounded = B; able = able; first = first })
 
     pub sought-here : a .vertex ≡ w
     sought-here = at-last .here
@@ -422,9 +426,9 @@ module _ (ts : List ℕ) (n w : ℕ) (wn : w < n) where
     pub sought-all : Sought ts n t w (record { vertex = w; tables = setGlobalBound (w / 256) (a .tables) })
     sought-all = record {
       here = refl;
-      beside = beside-then (at-last .beside) (setRoot-beside (w / 256) (a .tables));
-      nears = λ x. setRoot-near (w / 256) (a .tables) x ∙ at-last .nears x;
-      bounded = move-root ts n (w / 256) (a .tables) (λ x h c. elim (decLt x w) [
+      beside = beside-then (at-last .beside) (setGlobalBound-beside (w / 256) (a .tables));
+      nears = λ x. setGlobalBound-degree (w / 256) (a .tables) x ∙ at-last .nears x;
+      bounded = move-global ts n (w / 256) (a .tables) (λ x h c. elim (decLt x w) [
         | yes k ↦ clash c (can-same ts t (a .tables) x (at-last .nears x) ∙ first x k)
         | no k ↦ omega arith
       ]) (at-last .bounded);

@@ -173,9 +173,9 @@ module _ (n : ℕ) (ts : List ℕ) (s : Sphere n (length ts / 3) (org ts) (opp t
         ∙ ap (λ (q : Peeling). q .passed) (peel-is n ts s exact 0) ∙ sym (passed-is n ts s exact) in
         sym a ∙ b
 
-    pub staged : (z : List ℤ) → tablesOf z ≡ peelTables ts n t → Peeled n ts (labels n ts) z
+    pub peeled-tables : (z : List ℤ) → tablesOf z ≡ peelTables ts n t → Peeled n ts (labels n ts) z
     unfolding rules
-    staged z e =
+    peeled-tables z e =
         record {
           labelled = record {
             most = most;

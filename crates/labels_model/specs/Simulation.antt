@@ -25,7 +25,7 @@ use Rattle.theory_peeling.specs.Run.{run}
 use Rattle.labels_tables.specs.LabelledTables.{Stored}
 use Rattle.scratch_tables.specs.Tables.{Tables}
 use Rattle.labels_model.specs.Model.{Found, globalBound, setGlobalBound, isRemovable, firstRemovable, removeVertex, removeNext, removeAll}
-use Rattle.labels_model.specs.MinSearch.{Bounded, bounded-leave, Sought, sought-here, sought-all}
+use Rattle.labels_model.specs.MinSearch.{Bounded, bounded-removeVertex, Sought, sought-here, sought-all}
 use Rattle.labels_model.specs.LabelTriangle.{Coded}
 use Rattle.labels_model.specs.FrontierInvariant.{Stood, stood-same}
 use Rattle.labels_model.specs.Step.{head-is, count-is, head-kept, count-kept, order-here, order-kept, stands}
@@ -35,9 +35,9 @@ step-is : (ts : List ℕ) (p : Peeling) (w : ℕ) → nextRemovable ts p ≡ som
 unfolding step
 step-is ts p w t = rw (t, step)
 
-pub all-suc : (ts : List ℕ) (n k i : ℕ) (t : Tables) → removeAll ts n (suc k) i t ≡ removeAll ts n k (suc i) (removeNext ts n i t)
+pub removeAll-suc : (ts : List ℕ) (n k i : ℕ) (t : Tables) → removeAll ts n (suc k) i t ≡ removeAll ts n k (suc i) (removeNext ts n i t)
 unfolding removeAll
-all-suc ts n k i t = refl
+removeAll-suc ts n k i t = refl
 
 module _ (n : ℕ) (ts : List ℕ) (s : Sphere n (length ts / 3) (org ts) (opp ts)) (len : 3 * (length ts / 3) ≡ length ts) (few : length ts < 32000) where
   abbrev T : ℕ
@@ -127,7 +127,7 @@ module _ (n : ℕ) (ts : List ℕ) (s : Sphere n (length ts / 3) (org ts) (opp t
     onward : Followed k (suc i) (o e ∷ R) E (P ++ hs) t₂ (removeAll ts n k (suc i) t₂) → Followed (suc k) i R D P t (removeAll ts n (suc k) i t)
     unfolding iterate passes final trace
     onward r =
-        rw (all-suc ts n k i t, turned) (record {
+        rw (removeAll-suc ts n k i t, turned) (record {
           peel = Peel.step e e′ hs v lv (r .peel);
           ends = rw stepped (r .ends ∙ ap (λ (x : List ℕ). state ts (final (r .peel)) (2 ∷ []) x) (append-assoc P hs (passes (r .peel))));
           coded = rw (append-assoc P hs (passes (r .peel))) at (r .coded);
@@ -163,7 +163,7 @@ module _ (n : ℕ) (ts : List ℕ) (s : Sphere n (length ts / 3) (org ts) (opp t
           | no ne ↦
               onward (more (goes-on s v lv ne) (cons {x = o e} (v .this e e-in .from) d)
               (λ x h. elim (List·Memᴰ·cases-cons h) [ inl t ↦ rw t below | inr y ↦ b x y ]) (omega arith) (omega arith) next-stands
-              (bounded-leave ts n few i (o e) t₁ (sought .bounded)))
+              (bounded-removeVertex ts n few i (o e) t₁ (sought .bounded)))
           | yes la ↦
               let l = left-over s v lv la in
               let z : k ≡ 0 = omega (arith, two-left (o e ∷ R) l) in

@@ -26,7 +26,8 @@ use Rattle.scratch_tables.specs.Tables.{Tables}
 use Rattle.labels_model.specs.Model.{passFan, leaveFrontier, removeVertex}
 use Rattle.labels_model.specs.NeighbourCounts.{tip-is}
 use Rattle.labels_model.specs.FrontierInsert.{Marked}
-use Rattle.labels_model.specs.FrontierRemove.{gone-order, gone-earlier, gone-op, gone-head, gone-count, gone-marks}
+use Rattle.labels_model.specs.FrontierRemove.{leaveFrontier-order, leaveFrontier-earlier, leaveFrontier-op, leaveFrontier-head, leaveFrontier-count}
+use Rattle.labels_model.specs.FrontierRemove.{leaveFrontier-marks}
 use Rattle.labels_model.specs.LabelTriangle.{inner-dart, Coded}
 use Rattle.labels_model.specs.LabelFan.{marked-same, fan-shape, across, across-org, across-tip, Fanned, Fresh, fanned}
 use Rattle.labels_model.specs.FrontierInvariant.{tips-once, on, true-on, on-true, false-on, Stood, on-there, on-below, tip-on}
@@ -251,7 +252,7 @@ module _ (n : ℕ) (ts : List ℕ) (s : Sphere n (length ts / 3) (org ts) (opp t
     leave-is = let g : t .head v′ % 65536 ≡ e = omega (arith, head-is, eb, len, few) in rw (g, count-is, sym q-tip)
 
     coded₀ : Coded ts P t₀
-    coded₀ d b = gone-op i v′ (tip ts e) (tip ts q) t d ∙ st .coded d b
+    coded₀ d b = leaveFrontier-op i v′ (tip ts e) (tip ts q) t d ∙ st .coded d b
 
     aF : on ts D (tip ts e) ≡ true
     aF = tip-on n ts s len v e em
@@ -261,7 +262,7 @@ module _ (n : ℕ) (ts : List ℕ) (s : Sphere n (length ts / 3) (org ts) (opp t
 
     marked₀ : Marked n ts F₀ t₀
     marked₀ =
-        gone-marks n ts s len (on ts D) i v′ e q t (st .marked) (true-on ts D e em) eb refl qb q-from aF bF (on-below n ts s len v (tip ts e) aF)
+        leaveFrontier-marks n ts s len (on ts D) i v′ e q t (st .marked) (true-on ts D e em) eb refl qb q-from aF bF (on-below n ts s len v (tip ts e) aF)
         (on-below n ts s len v (tip ts q) bF)
         (λ p. s .proper e eb (sym p ∙ tip-is ts e)) (λ p. s .proper q qb (q-from ∙ sym p ∙ tip-is ts q))
         (λ p. q-out (rw (one e q eb qb (sym q-from) p) at (v .this e em))) only-two
@@ -288,18 +289,18 @@ module _ (n : ℕ) (ts : List ℕ) (s : Sphere n (length ts / 3) (org ts) (opp t
     pub head-kept : (r : ℕ) → r ∈ v′ ∷ R → t′ .head r ≡ t .head r
     head-kept r m =
         done .head-old r (λ g k p. prev-there g k (Memᴰ·cast (sym (p ∙ across-org n ts s len few g (gb g k))) m))
-        ∙ gone-head i v′ (tip ts e) (tip ts q) t r
+        ∙ leaveFrontier-head i v′ (tip ts e) (tip ts q) t r
 
     pub count-kept : (r : ℕ) → r ∈ v′ ∷ R → t′ .count r ≡ t .count r
     count-kept r m =
         done .count-old r (λ g k p. tip-there g k (Memᴰ·cast (sym (p ∙ across-tip n ts s len few g (gb g k))) m))
-        ∙ gone-count i v′ (tip ts e) (tip ts q) t r
+        ∙ leaveFrontier-count i v′ (tip ts e) (tip ts q) t r
 
     pub order-here : t′ .mark (2 * i + 1) ≡ v′
-    order-here = done .order i ∙ gone-order i v′ (tip ts e) (tip ts q) t
+    order-here = done .order i ∙ leaveFrontier-order i v′ (tip ts e) (tip ts q) t
 
     pub order-kept : (j : ℕ) → j ≢ i → t′ .mark (2 * j + 1) ≡ t .mark (2 * j + 1)
-    order-kept j h = done .order j ∙ gone-earlier i v′ (tip ts e) (tip ts q) t j h
+    order-kept j h = done .order j ∙ leaveFrontier-earlier i v′ (tip ts e) (tip ts q) t j h
 
     -- the new frontier's darts
     edge-of : (g : ℕ) → g ∈ gs → across n ts s len few g ∈ D′
@@ -318,7 +319,7 @@ module _ (n : ℕ) (ts : List ℕ) (s : Sphere n (length ts / 3) (org ts) (opp t
                 | inl r ↦ absurd (k (Memᴰ·cast (ap o (sym (r .2) ∙ edge-is T o (opp ts) (r .0)))
                     (Memᴰ·map (λ g. o (across n ts s len few g)) (r .1))))
                 | inr r ↦ done .head-old (o x) (λ g j p. k (Memᴰ·cast p (Memᴰ·map (λ g. o (across n ts s len few g)) j)))
-                    ∙ gone-head i v′ (tip ts e) (tip ts q) t (o x) ∙ st .heads x (r .0)
+                    ∙ leaveFrontier-head i v′ (tip ts e) (tip ts q) t (o x) ∙ st .heads x (r .0)
               ]
         ]
 
@@ -337,7 +338,7 @@ module _ (n : ℕ) (ts : List ℕ) (s : Sphere n (length ts / 3) (org ts) (opp t
                 | inl r ↦ absurd (k (Memᴰ·cast (ap (tip ts) (sym (r .2) ∙ edge-is T o (opp ts) (r .0)))
                     (Memᴰ·map (λ g. tip ts (across n ts s len few g)) (r .1))))
                 | inr r ↦ done .count-old (tip ts x) (λ g j p. k (Memᴰ·cast p (Memᴰ·map (λ g. tip ts (across n ts s len few g)) j)))
-                    ∙ gone-count i v′ (tip ts e) (tip ts q) t (tip ts x) ∙ st .counts x (r .0)
+                    ∙ leaveFrontier-count i v′ (tip ts e) (tip ts q) t (tip ts x) ∙ st .counts x (r .0)
               ]
         ]
 

@@ -18,16 +18,16 @@ use Rattle.labels_model.specs.Model.{lowerGlobalBound, lowerBounds, setDegree, 
 use Rattle.labels_model.specs.Model.{enterFrontier, dartWord, setLabels, addFrontierDart, passTriangle, passFan, leaveFrontier, removeVertex, isRemovable}
 use Rattle.labels_model.specs.Model.{firstInRange, blockEnd, blockInGroup, firstInBlock, firstInBlocks, firstInGroup}
 use Rattle.labels_model.specs.Model.{firstRemovable, removeNext, removeAll, clearDegrees, initDegrees, initFrontier, initLabels, init, peelTables}
-use Rattle.labels_model.specs.Simulation.{all-suc}
-use Rattle.labels_model.specs.MinSearch.{scan-least, scan-most}
+use Rattle.labels_model.specs.Simulation.{removeAll-suc}
+use Rattle.labels_model.specs.MinSearch.{firstInRange-least, firstInRange-most}
 
 -- ---- room
 
 pub holds-kept : {a b v : ℕ} → b ≡ a → HasVertex a v → HasVertex b v
 holds-kept e h = record { room = omega (arith, e, h .room); small = h .small }
 
-pub tagging-kept : {g a b : ℕ} → b ≡ a → HasTriangle g a → HasTriangle g b
-tagging-kept e t = record {
+pub triangle-kept : {g a b : ℕ} → b ≡ a → HasTriangle g a → HasTriangle g b
+triangle-kept e t = record {
   dart = t .dart;
   here = omega (arith, e, t .here);
   following = omega (arith, e, t .following);
@@ -36,13 +36,13 @@ tagging-kept e t = record {
 
 pub room-kept : {ts : List ℕ} {a b : ℕ} → b ≡ a → Room ts a → Room ts b
 room-kept {ts} e r = record {
-  darts = λ g h. tagging-kept {g = g} e (r .darts g h);
+  darts = λ g h. triangle-kept {g = g} e (r .darts g h);
   vertices = λ d. holds-kept {v = org ts d} e (r .vertices d);
   few = r .few;
 }
 
-pub wide-kept : {n a b : ℕ} → b ≡ a → HasVertices n a → HasVertices n b
-wide-kept e w = record { room = omega (arith, e, w .room); small = w .small }
+pub vertices-kept : {n a b : ℕ} → b ≡ a → HasVertices n a → HasVertices n b
+vertices-kept e w = record { room = omega (arith, e, w .room); small = w .small }
 
 pub org-holds : {ts : List ℕ} {words : ℕ} (d w : ℕ) → Room ts words → w ≡ org ts d → HasVertex words w
 org-holds d w r e = rw e (r .vertices d)
@@ -86,147 +86,147 @@ prev-small g p h e = omega (arith, e)
 
 -- ---- counters and bounds
 
-pub near-is : (t : Tables) (w r : ℕ) → r ≡ t .mark (2 * w) → r % 65536 ≡ frontierDegree t w
+pub frontierDegree-is : (t : Tables) (w r : ℕ) → r ≡ t .mark (2 * w) → r % 65536 ≡ frontierDegree t w
 unfolding frontierDegree
-near-is t w r e = ap (λ (x : ℕ). x % 65536) e
+frontierDegree-is t w r e = ap (λ (x : ℕ). x % 65536) e
 
-pub low-is : (t : Tables) (b r : ℕ) → r ≡ t .mark (2 * b) → r / 65536 % 32 ≡ blockBound t b
+pub blockBound-is : (t : Tables) (b r : ℕ) → r ≡ t .mark (2 * b) → r / 65536 % 32 ≡ blockBound t b
 unfolding blockBound
-low-is t b r e = ap (λ (x : ℕ). x / 65536 % 32) e
+blockBound-is t b r e = ap (λ (x : ℕ). x / 65536 % 32) e
 
-pub low-small : (r : ℕ) → r / 65536 % 32 < 32
-low-small r = omega arith
+pub blockBound-small : (r : ℕ) → r / 65536 % 32 < 32
+blockBound-small r = omega arith
 
-pub top-is : (t : Tables) (g r : ℕ) → r ≡ t .mark (2 * g) → r / 2097152 % 32 ≡ groupBound t g
+pub groupBound-is : (t : Tables) (g r : ℕ) → r ≡ t .mark (2 * g) → r / 2097152 % 32 ≡ groupBound t g
 unfolding groupBound
-top-is t g r e = ap (λ (x : ℕ). x / 2097152 % 32) e
+groupBound-is t g r e = ap (λ (x : ℕ). x / 2097152 % 32) e
 
-pub root-is : (t : Tables) (r : ℕ) → r ≡ t .mark 0 → r / 67108864 ≡ globalBound t
+pub globalBound-is : (t : Tables) (r : ℕ) → r ≡ t .mark 0 → r / 67108864 ≡ globalBound t
 unfolding globalBound
-root-is t r e = ap (λ (x : ℕ). x / 67108864) e
+globalBound-is t r e = ap (λ (x : ℕ). x / 67108864) e
 
-pub setNear-is : (w c m : ℕ) (t t′ : Tables) → m ≡ t .mark (2 * w) → t′ ≡ setMark (2 * w) (c + 65536 * (m / 65536)) t →
+pub storeDegree-is : (w c m : ℕ) (t t′ : Tables) → m ≡ t .mark (2 * w) → t′ ≡ setMark (2 * w) (c + 65536 * (m / 65536)) t →
     t′ ≡ storeDegree w c t
 unfolding storeDegree
-setNear-is w c m t t′ e q = q ∙ ap (λ (x : ℕ). setMark (2 * w) (c + 65536 * (x / 65536)) t) e
+storeDegree-is w c m t t′ e q = q ∙ ap (λ (x : ℕ). setMark (2 * w) (c + 65536 * (x / 65536)) t) e
 
-pub setLow-is : (b x m : ℕ) (t t′ : Tables) → m ≡ t .mark (2 * b) → t′ ≡ setMark (2 * b) (m % 65536 + 65536 * x + 2097152 * (m / 2097152)) t →
+pub setBlockBound-is : (b x m : ℕ) (t t′ : Tables) → m ≡ t .mark (2 * b) → t′ ≡ setMark (2 * b) (m % 65536 + 65536 * x + 2097152 * (m / 2097152)) t →
     t′ ≡ setBlockBound b x t
 unfolding setBlockBound
-setLow-is b x m t t′ e q = q ∙ ap (λ (y : ℕ). setMark (2 * b) (y % 65536 + 65536 * x + 2097152 * (y / 2097152)) t) e
+setBlockBound-is b x m t t′ e q = q ∙ ap (λ (y : ℕ). setMark (2 * b) (y % 65536 + 65536 * x + 2097152 * (y / 2097152)) t) e
 
-pub setTop-is : (g x m : ℕ) (t t′ : Tables) → m ≡ t .mark (2 * g) →
+pub setGroupBound-is : (g x m : ℕ) (t t′ : Tables) → m ≡ t .mark (2 * g) →
     t′ ≡ setMark (2 * g) (m % 2097152 + 2097152 * x + 67108864 * (m / 67108864)) t → t′ ≡ setGroupBound g x t
 unfolding setGroupBound
-setTop-is g x m t t′ e q = q ∙ ap (λ (y : ℕ). setMark (2 * g) (y % 2097152 + 2097152 * x + 67108864 * (y / 67108864)) t) e
+setGroupBound-is g x m t t′ e q = q ∙ ap (λ (y : ℕ). setMark (2 * g) (y % 2097152 + 2097152 * x + 67108864 * (y / 67108864)) t) e
 
-pub setRoot-is : (x m : ℕ) (t t′ : Tables) → m ≡ t .mark 0 → t′ ≡ setMark 0 (m % 67108864 + 67108864 * x) t → t′ ≡ setGlobalBound x t
+pub setGlobalBound-is : (x m : ℕ) (t t′ : Tables) → m ≡ t .mark 0 → t′ ≡ setMark 0 (m % 67108864 + 67108864 * x) t → t′ ≡ setGlobalBound x t
 unfolding setGlobalBound
-setRoot-is x m t t′ e q = q ∙ ap (λ (y : ℕ). setMark 0 (y % 67108864 + 67108864 * x) t) e
+setGlobalBound-is x m t t′ e q = q ∙ ap (λ (y : ℕ). setMark 0 (y % 67108864 + 67108864 * x) t) e
 
-pub block-is : (w l m : ℕ) (t t′ : Tables) → l ≡ blockBound t (w / 16) → m ≡ min l (w % 16) → t′ ≡ setBlockBound (w / 16) m t →
+pub lowerBlockBound-is : (w l m : ℕ) (t t′ : Tables) → l ≡ blockBound t (w / 16) → m ≡ min l (w % 16) → t′ ≡ setBlockBound (w / 16) m t →
     t′ ≡ lowerBlockBound w t
 unfolding lowerBlockBound
-block-is w l m t t′ e f q = q ∙ ap (λ (x : ℕ). setBlockBound (w / 16) x t) (f ∙ ap (λ (x : ℕ). min x (w % 16)) e)
+lowerBlockBound-is w l m t t′ e f q = q ∙ ap (λ (x : ℕ). setBlockBound (w / 16) x t) (f ∙ ap (λ (x : ℕ). min x (w % 16)) e)
 
-pub group-is : (w l m : ℕ) (t t′ : Tables) → l ≡ groupBound t (w / 256) → m ≡ min l (w / 16 % 16) → t′ ≡ setGroupBound (w / 256) m t →
+pub lowerGroupBound-is : (w l m : ℕ) (t t′ : Tables) → l ≡ groupBound t (w / 256) → m ≡ min l (w / 16 % 16) → t′ ≡ setGroupBound (w / 256) m t →
     t′ ≡ lowerGroupBound w t
 unfolding lowerGroupBound
-group-is w l m t t′ e f q = q ∙ ap (λ (x : ℕ). setGroupBound (w / 256) x t) (f ∙ ap (λ (x : ℕ). min x (w / 16 % 16)) e)
+lowerGroupBound-is w l m t t′ e f q = q ∙ ap (λ (x : ℕ). setGroupBound (w / 256) x t) (f ∙ ap (λ (x : ℕ). min x (w / 16 % 16)) e)
 
-pub all-groups-is : (w l m : ℕ) (t t′ : Tables) → l ≡ globalBound t → m ≡ min l (w / 256) → t′ ≡ setGlobalBound m t →
+pub lowerGlobalBound-is : (w l m : ℕ) (t t′ : Tables) → l ≡ globalBound t → m ≡ min l (w / 256) → t′ ≡ setGlobalBound m t →
     t′ ≡ lowerGlobalBound w t
 unfolding lowerGlobalBound
-all-groups-is w l m t t′ e f q = q ∙ ap (λ (x : ℕ). setGlobalBound x t) (f ∙ ap (λ (x : ℕ). min x (w / 256)) e)
+lowerGlobalBound-is w l m t t′ e f q = q ∙ ap (λ (x : ℕ). setGlobalBound x t) (f ∙ ap (λ (x : ℕ). min x (w / 256)) e)
 
-pub wake-is : (w : ℕ) (t t′ t″ t‴ : Tables) → t′ ≡ lowerBlockBound w t → t″ ≡ lowerGroupBound w t′ → t‴ ≡ lowerGlobalBound w t″
+pub lowerBounds-is : (w : ℕ) (t t′ t″ t‴ : Tables) → t′ ≡ lowerBlockBound w t → t″ ≡ lowerGroupBound w t′ → t‴ ≡ lowerGlobalBound w t″
     → t‴ ≡ lowerBounds w t
 unfolding lowerBounds
-wake-is w t t′ t″ t‴ e q r = r ∙ ap (lowerGlobalBound w) (q ∙ ap (lowerGroupBound w) e)
+lowerBounds-is w t t′ t″ t‴ e q r = r ∙ ap (lowerGlobalBound w) (q ∙ ap (lowerGroupBound w) e)
 
 module _ (w c : ℕ) (t t′ : Tables) where
-  pub put-on : (t″ : Tables) → t′ ≡ storeDegree w c t → c ≡ 3 → t″ ≡ lowerBounds w t′ → t″ ≡ setDegree w c t
+  pub setDegree-three : (t″ : Tables) → t′ ≡ storeDegree w c t → c ≡ 3 → t″ ≡ lowerBounds w t′ → t″ ≡ setDegree w c t
   unfolding setDegree
-  put-on t″ e h q = rw (eq-eqb c 3 h) (q ∙ ap (lowerBounds w) e)
+  setDegree-three t″ e h q = rw (eq-eqb c 3 h) (q ∙ ap (lowerBounds w) e)
 
-  pub put-off : t′ ≡ storeDegree w c t → (c ≡ 3 → ⊥) → t′ ≡ setDegree w c t
+  pub setDegree-other : t′ ≡ storeDegree w c t → (c ≡ 3 → ⊥) → t′ ≡ setDegree w c t
   unfolding setDegree
-  put-off e h = rw (ne-eqb c 3 h) e
+  setDegree-other e h = rw (ne-eqb c 3 h) e
 
-pub more-full : (w c : ℕ) (t : Tables) → c ≡ frontierDegree t w → 65535 ≤ c → t ≡ incrementDegree w t
+pub incrementDegree-full : (w c : ℕ) (t : Tables) → c ≡ frontierDegree t w → 65535 ≤ c → t ≡ incrementDegree w t
 unfolding incrementDegree
-more-full w c t e h = rw (le-ltb (frontierDegree t w) 65535 (omega (arith, e)))
+incrementDegree-full w c t e h = rw (le-ltb (frontierDegree t w) 65535 (omega (arith, e)))
 
 module _ (w c : ℕ) (t t′ : Tables) where
-  pub more-up : c ≡ frontierDegree t w → c < 65535 → t′ ≡ setDegree w (c + 1) t → t′ ≡ incrementDegree w t
+  pub incrementDegree-up : c ≡ frontierDegree t w → c < 65535 → t′ ≡ setDegree w (c + 1) t → t′ ≡ incrementDegree w t
   unfolding incrementDegree
-  more-up e h q = rw (lt-ltb (frontierDegree t w) 65535 (omega (arith, e))) (q ∙ ap (λ (x : ℕ). setDegree w (x + 1) t) e)
+  incrementDegree-up e h q = rw (lt-ltb (frontierDegree t w) 65535 (omega (arith, e))) (q ∙ ap (λ (x : ℕ). setDegree w (x + 1) t) e)
 
-  pub less-down : c ≡ frontierDegree t w → t′ ≡ setDegree w (c - 1) t → t′ ≡ decrementDegree w t
+  pub decrementDegree-down : c ≡ frontierDegree t w → t′ ≡ setDegree w (c - 1) t → t′ ≡ decrementDegree w t
   unfolding decrementDegree
-  less-down e q = q ∙ ap (λ (x : ℕ). setDegree w (x - 1) t) e
+  decrementDegree-down e q = q ∙ ap (λ (x : ℕ). setDegree w (x - 1) t) e
 
-  pub less-none : c ≡ frontierDegree t w → c ≤ 0 → t′ ≡ setDegree w 0 t → t′ ≡ decrementDegree w t
+  pub decrementDegree-none : c ≡ frontierDegree t w → c ≤ 0 → t′ ≡ setDegree w 0 t → t′ ≡ decrementDegree w t
   unfolding decrementDegree
-  less-none e h q = let z : 0 ≡ frontierDegree t w - 1 = omega (arith, e) in q ∙ ap (λ (x : ℕ). setDegree w x t) z
+  decrementDegree-none e h q = let z : 0 ≡ frontierDegree t w - 1 = omega (arith, e) in q ∙ ap (λ (x : ℕ). setDegree w x t) z
 
 -- ---- a vertex comes onto the frontier
 
 module _ (w c k : ℕ) (t : Tables) where
-  pub meet-on : (t′ : Tables) → k ≡ frontierDegree t w → 0 < k → t′ ≡ incrementDegree w t →
+  pub countNeighbour-on : (t′ : Tables) → k ≡ frontierDegree t w → 0 < k → t′ ≡ incrementDegree w t →
       countNeighbour w c t ≡ record { count = c + 1; tables = t′ }
   unfolding countNeighbour
-  meet-on t′ e h q = rw (lt-ltb 0 (frontierDegree t w) (omega (arith, e))) (ap (λ (x : Tables). record { count = c + 1; tables = x }) (sym q))
+  countNeighbour-on t′ e h q = rw (lt-ltb 0 (frontierDegree t w) (omega (arith, e))) (ap (λ (x : Tables). record { count = c + 1; tables = x }) (sym q))
 
-  pub meet-off : k ≡ frontierDegree t w → k ≤ 0 → countNeighbour w c t ≡ record { count = c; tables = t }
+  pub countNeighbour-off : k ≡ frontierDegree t w → k ≤ 0 → countNeighbour w c t ≡ record { count = c; tables = t }
   unfolding countNeighbour
-  meet-off e h = rw (le-ltb 0 (frontierDegree t w) (omega (arith, e)))
+  countNeighbour-off e h = rw (le-ltb 0 (frontierDegree t w) (omega (arith, e)))
 
 -- the walk is over, or goes on from where one rotation leads
-round-suc : (ts : List ℕ) (first k d c p h w c′ : ℕ) (t t′ : Tables) → p ≡ prev d → h ≡ oppositeIn (t .op) p → w ≡ org ts p →
+countNeighbours-suc : (ts : List ℕ) (first k d c p h w c′ : ℕ) (t t′ : Tables) → p ≡ prev d → h ≡ oppositeIn (t .op) p → w ≡ org ts p →
     countNeighbour w c t ≡ record { count = c′; tables = t′ }
     → countNeighbours ts first (suc k) d c t ≡ cond (eqb h first) (record { count = c′; tables = t′ }) (countNeighbours ts first k h c′ t′)
 unfolding countNeighbours rotated
-round-suc ts first k d c p h w c′ t t′ a b e q = rw (sym a, sym b, sym e, q)
+countNeighbours-suc ts first k d c p h w c′ t t′ a b e q = rw (sym a, sym b, sym e, q)
 
 module _ (ts : List ℕ) (first k d c p h w c′ : ℕ) (t t′ : Tables) (end : Counted) where
-  pub round-over : 0 < k → p ≡ prev d → h ≡ oppositeIn (t .op) p → w ≡ org ts p → countNeighbour w c t ≡ record { count = c′; tables = t′ } →
+  pub countNeighbours-over : 0 < k → p ≡ prev d → h ≡ oppositeIn (t .op) p → w ≡ org ts p → countNeighbour w c t ≡ record { count = c′; tables = t′ } →
       h ≡ first → countNeighbours ts first k d c t ≡ end → end ≡ record { count = c′; tables = t′ }
-  round-over l a b e m q i =
+  countNeighbours-over l a b e m q i =
       let j : k ≡ suc (k - 1) = omega arith in
-      sym (rw (j, round-suc ts first (k - 1) d c p h w c′ t t′ a b e m, eq-eqb h first q) at i)
+      sym (rw (j, countNeighbours-suc ts first (k - 1) d c p h w c′ t t′ a b e m, eq-eqb h first q) at i)
 
-  pub round-more : 0 < k → p ≡ prev d → h ≡ oppositeIn (t .op) p → w ≡ org ts p → countNeighbour w c t ≡ record { count = c′; tables = t′ } →
+  pub countNeighbours-more : 0 < k → p ≡ prev d → h ≡ oppositeIn (t .op) p → w ≡ org ts p → countNeighbour w c t ≡ record { count = c′; tables = t′ } →
       (h ≡ first → ⊥) → countNeighbours ts first k d c t ≡ end → countNeighbours ts first (k - 1) h c′ t′ ≡ end
-  round-more l a b e m q i =
+  countNeighbours-more l a b e m q i =
       let j : k ≡ suc (k - 1) = omega arith in
-      rw (round-suc ts first (k - 1) d c p h w c′ t t′ a b e m, ne-eqb h first q) at (rw j at i)
+      rw (countNeighbours-suc ts first (k - 1) d c p h w c′ t t′ a b e m, ne-eqb h first q) at (rw j at i)
 
-pub round-none : (ts : List ℕ) (first k d c : ℕ) (t : Tables) (end : Counted) → k ≤ 0 → countNeighbours ts first k d c t ≡ end →
+pub countNeighbours-none : (ts : List ℕ) (first k d c : ℕ) (t : Tables) (end : Counted) → k ≤ 0 → countNeighbours ts first k d c t ≡ end →
     end ≡ record { count = c; tables = t }
 unfolding countNeighbours
-round-none ts first zero d c t end h i = sym i
-round-none ts first (suc k) d c t end h i = absurd (omega arith)
+countNeighbours-none ts first zero d c t end h i = sym i
+countNeighbours-none ts first (suc k) d c t end h i = absurd (omega arith)
 
 -- the rest of the walk comes to the whole of it, s was the scratch at the start
-pub record Rounding (ts : List ℕ) (first : ℕ) (s s′ : List ℤ) (k d c : ℕ) : Type 0 where
+pub record CountLoop (ts : List ℕ) (first : ℕ) (s s′ : List ℤ) (k d c : ℕ) : Type 0 where
   pub long : length s′ ≡ length s
   pub dart : d < 2 ^ 63
   pub most : c + k ≤ length ts + 1
   pub rest : countNeighbours ts first k d c (tablesOf s′) ≡ countNeighbours ts first (length ts) first 1 (tablesOf s)
 
-pub enter-is : (ts : List ℕ) (u d c : ℕ) (t t′ t″ : Tables) → countNeighbours ts d (length ts) d 1 t ≡ record { count = c; tables = t′ } →
+pub enterFrontier-is : (ts : List ℕ) (u d c : ℕ) (t t′ t″ : Tables) → countNeighbours ts d (length ts) d 1 t ≡ record { count = c; tables = t′ } →
     t″ ≡ setDegree u c t′ → t″ ≡ enterFrontier ts u d t
 unfolding enterFrontier
-enter-is ts u d c t t′ t″ a b = rw a b
+enterFrontier-is ts u d c t t′ t″ a b = rw a b
 
 -- ---- a triangle is passed
 
-pub tag-is : (g q p i a j b k c : ℕ) (t t1 t2 t3 : Tables) → q ≡ next g → p ≡ prev g → i ≡ oppositeIn (t .op) q → a ≡ dartWord i 0 →
+pub setLabels-is : (g q p i a j b k c : ℕ) (t t1 t2 t3 : Tables) → q ≡ next g → p ≡ prev g → i ≡ oppositeIn (t .op) q → a ≡ dartWord i 0 →
     j ≡ oppositeIn (t .op) p → b ≡ dartWord j 1 → k ≡ oppositeIn (t .op) g → c ≡ dartWord k 2
     → t1 ≡ setOp q a t → t2 ≡ setOp p b t1 → t3 ≡ setOp g c t2 → t3 ≡ setLabels g t
 unfolding setLabels
-tag-is g q p i a j b k c t t1 t2 t3 qe pe ie ae je be ke ce x y z =
+setLabels-is g q p i a j b k c t t1 t2 t3 qe pe ie ae je be ke ce x y z =
     let u : a ≡ dartWord (oppositeIn (t .op) (next g)) 0 = ae ∙ ap (λ (m : ℕ). dartWord m 0) (ie ∙ ap (oppositeIn (t .op)) qe) in
     let v : b ≡ dartWord (oppositeIn (t .op) (prev g)) 1 = be ∙ ap (λ (m : ℕ). dartWord m 1) (je ∙ ap (oppositeIn (t .op)) pe) in
     let w : c ≡ dartWord (oppositeIn (t .op) g) 2 = ce ∙ ap (λ (m : ℕ). dartWord m 2) ke in
@@ -235,98 +235,98 @@ tag-is g q p i a j b k c t t1 t2 t3 qe pe ie ae je be ke ce x y z =
     ∙ ap₂ (λ (m r : ℕ). setOp m r t1) pe v ∙ ap (setOp (prev g) (dartWord (oppositeIn (t .op) (prev g)) 1)) x′ in
     z ∙ ap (λ (m : ℕ). setOp g m t2) w ∙ ap (setOp g (dartWord (oppositeIn (t .op) g) 2)) y′
 
-pub border-is : (v w x : ℕ) (t t′ t″ : Tables) → t′ ≡ setCount w x t → t″ ≡ setHead v x t′ → t″ ≡ addFrontierDart v w x t
+pub addFrontierDart-is : (v w x : ℕ) (t t′ t″ : Tables) → t′ ≡ setCount w x t → t″ ≡ setHead v x t′ → t″ ≡ addFrontierDart v w x t
 unfolding addFrontierDart
-border-is v w x t t′ t″ m n = n ∙ ap (setHead v x) m
+addFrontierDart-is v w x t t′ t″ m n = n ∙ ap (setHead v x) m
 
-pub pass-is : (ts : List ℕ) (g q p v w x : ℕ) (t t′ t″ : Tables) → g < length ts → q ≡ next g → p ≡ prev g → v ≡ org ts p →
+pub passTriangle-is : (ts : List ℕ) (g q p v w x : ℕ) (t t′ t″ : Tables) → g < length ts → q ≡ next g → p ≡ prev g → v ≡ org ts p →
     w ≡ org ts q → x ≡ oppositeIn (t .op) q → t′ ≡ setLabels g t → t″ ≡ addFrontierDart v w x t′
     → t″ ≡ passTriangle ts g t
 unfolding passTriangle
-pass-is ts g q p v w x t t′ t″ h a b c d e m n = rw (lt-ltb g (length ts) h, sym a, sym b, sym c, sym d, sym e, sym m) n
+passTriangle-is ts g q p v w x t t′ t″ h a b c d e m n = rw (lt-ltb g (length ts) h, sym a, sym b, sym c, sym d, sym e, sym m) n
 
-pub pass-none : (ts : List ℕ) (g : ℕ) (t : Tables) → length ts ≤ g → t ≡ passTriangle ts g t
+pub passTriangle-none : (ts : List ℕ) (g : ℕ) (t : Tables) → length ts ≤ g → t ≡ passTriangle ts g t
 unfolding passTriangle
-pass-none ts g t h = rw (le-ltb g (length ts) h)
+passTriangle-none ts g t h = rw (le-ltb g (length ts) h)
 
 -- ---- the fan
 
-fan-suc : (ts : List ℕ) (right k g p h u : ℕ) (t t′ : Tables) → p ≡ prev g → u ≡ org ts p → h ≡ oppositeIn (t .op) p →
+passFan-suc : (ts : List ℕ) (right k g p h u : ℕ) (t t′ : Tables) → p ≡ prev g → u ≡ org ts p → h ≡ oppositeIn (t .op) p →
     t′ ≡ passTriangle ts g t
     → passFan ts right (suc k) g t ≡ cond (eqb u right) t′ (passFan ts right k h (enterFrontier ts u p t′))
 unfolding passFan rotated
-fan-suc ts right k g p h u t t′ a b c m = rw (sym a, sym b, sym c, sym m)
+passFan-suc ts right k g p h u t t′ a b c m = rw (sym a, sym b, sym c, sym m)
 
 module _ (ts : List ℕ) (right k g p h u : ℕ) (t t′ end : Tables) where
-  pub fan-over : 0 < k → p ≡ prev g → u ≡ org ts p → h ≡ oppositeIn (t .op) p → t′ ≡ passTriangle ts g t → u ≡ right →
+  pub passFan-over : 0 < k → p ≡ prev g → u ≡ org ts p → h ≡ oppositeIn (t .op) p → t′ ≡ passTriangle ts g t → u ≡ right →
       passFan ts right k g t ≡ end → t′ ≡ end
-  fan-over l a b c m q i =
+  passFan-over l a b c m q i =
       let j : k ≡ suc (k - 1) = omega arith in
-      rw (j, fan-suc ts right (k - 1) g p h u t t′ a b c m, eq-eqb u right q) at i
+      rw (j, passFan-suc ts right (k - 1) g p h u t t′ a b c m, eq-eqb u right q) at i
 
-  pub fan-more : (t″ : Tables) → 0 < k → p ≡ prev g → u ≡ org ts p → h ≡ oppositeIn (t .op) p → t′ ≡ passTriangle ts g t →
+  pub passFan-more : (t″ : Tables) → 0 < k → p ≡ prev g → u ≡ org ts p → h ≡ oppositeIn (t .op) p → t′ ≡ passTriangle ts g t →
       (u ≡ right → ⊥) → t″ ≡ enterFrontier ts u p t′ → passFan ts right k g t ≡ end → passFan ts right (k - 1) h t″ ≡ end
-  fan-more t″ l a b c m q n i =
+  passFan-more t″ l a b c m q n i =
       let j : k ≡ suc (k - 1) = omega arith in
-      rw n (rw (fan-suc ts right (k - 1) g p h u t t′ a b c m, ne-eqb u right q) at (rw j at i))
+      rw n (rw (passFan-suc ts right (k - 1) g p h u t t′ a b c m, ne-eqb u right q) at (rw j at i))
 
-pub fan-none : (ts : List ℕ) (right k g : ℕ) (t end : Tables) → k ≤ 0 → passFan ts right k g t ≡ end → t ≡ end
+pub passFan-none : (ts : List ℕ) (right k g : ℕ) (t end : Tables) → k ≤ 0 → passFan ts right k g t ≡ end → t ≡ end
 unfolding passFan
-fan-none ts right zero g t end h i = i
-fan-none ts right (suc k) g t end h i = absurd (omega arith)
+passFan-none ts right zero g t end h i = i
+passFan-none ts right (suc k) g t end h i = absurd (omega arith)
 
 -- the rest of the fan comes to the whole of it, s was the scratch at the start
-pub record Fanning (ts : List ℕ) (right first : ℕ) (s s′ : List ℤ) (k g : ℕ) : Type 0 where
+pub record FanLoop (ts : List ℕ) (right first : ℕ) (s s′ : List ℤ) (k g : ℕ) : Type 0 where
   pub long : length s′ ≡ length s
   pub dart : g < 65536
   pub rest : passFan ts right k g (tablesOf s′) ≡ passFan ts right (length ts) first (tablesOf s)
 
 -- ---- a vertex leaves
 
-pub gone-is : (i v left right : ℕ) (t t1 t2 t3 t4 : Tables) → t1 ≡ decrementDegree left t → t2 ≡ decrementDegree right t1 →
+pub leaveFrontier-is : (i v left right : ℕ) (t t1 t2 t3 t4 : Tables) → t1 ≡ decrementDegree left t → t2 ≡ decrementDegree right t1 →
     t3 ≡ storeDegree v 0 t2 → t4 ≡ setMark (2 * i + 1) v t3 → t4 ≡ leaveFrontier i v left right t
 unfolding leaveFrontier
-gone-is i v left right t t1 t2 t3 t4 a b c d = d ∙ ap (setMark (2 * i + 1) v) (c ∙ ap (storeDegree v 0) (b ∙ ap (decrementDegree right) a))
+leaveFrontier-is i v left right t t1 t2 t3 t4 a b c d = d ∙ ap (setMark (2 * i + 1) v) (c ∙ ap (storeDegree v 0) (b ∙ ap (decrementDegree right) a))
 
-pub leave-is : (ts : List ℕ) (i v g left x right : ℕ) (t t′ t″ : Tables) → g ≡ t .head v → left ≡ tip ts (g % 65536) → x ≡ t .count v →
+pub removeVertex-is : (ts : List ℕ) (i v g left x right : ℕ) (t t′ t″ : Tables) → g ≡ t .head v → left ≡ tip ts (g % 65536) → x ≡ t .count v →
     right ≡ org ts x
     → t′ ≡ leaveFrontier i v left right t → t″ ≡ passFan ts right (length ts) (g % 65536) t′ → t″ ≡ removeVertex ts i v t
 unfolding removeVertex
-leave-is ts i v g left x right t t′ t″ a b c d e q =
+removeVertex-is ts i v g left x right t t′ t″ a b c d e q =
     let d′ : right ≡ org ts (t .count v) = d ∙ ap (org ts) c in
     rw (sym a, sym b, sym d′) (rw e at q)
 
 -- ---- the search
 
 module _ (ts : List ℕ) (t : Tables) (v c : ℕ) where
-  pub can-not : c ≡ frontierDegree t v → (c ≡ 3 → ⊥) → false ≡ isRemovable ts t v
+  pub isRemovable-not : c ≡ frontierDegree t v → (c ≡ 3 → ⊥) → false ≡ isRemovable ts t v
   unfolding isRemovable
-  can-not e h = rw (ne-eqb (frontierDegree t v) 3 (λ z. h (e ∙ z)))
+  isRemovable-not e h = rw (ne-eqb (frontierDegree t v) 3 (λ z. h (e ∙ z)))
 
-  pub can-not-0 : (a : ℕ) → c ≡ frontierDegree t v → c ≡ 3 → a ≡ org ts 0 → v ≡ a → false ≡ isRemovable ts t v
+  pub isRemovable-not-0 : (a : ℕ) → c ≡ frontierDegree t v → c ≡ 3 → a ≡ org ts 0 → v ≡ a → false ≡ isRemovable ts t v
   unfolding isRemovable
-  can-not-0 a e h q p = rw (eq-eqb (frontierDegree t v) 3 (sym e ∙ h), eq-eqb v (org ts 0) (p ∙ q))
+  isRemovable-not-0 a e h q p = rw (eq-eqb (frontierDegree t v) 3 (sym e ∙ h), eq-eqb v (org ts 0) (p ∙ q))
 
-  pub can-but-2 : (a b : ℕ) → c ≡ frontierDegree t v → c ≡ 3 → a ≡ org ts 0 → (v ≡ a → ⊥) → b ≡ org ts 2 →
+  pub isRemovable-but-2 : (a b : ℕ) → c ≡ frontierDegree t v → c ≡ 3 → a ≡ org ts 0 → (v ≡ a → ⊥) → b ≡ org ts 2 →
       not (eqb v b) ≡ isRemovable ts t v
   unfolding isRemovable
-  can-but-2 a b e h q p f = rw (eq-eqb (frontierDegree t v) 3 (sym e ∙ h), ne-eqb v (org ts 0) (λ z. p (z ∙ sym q)), f)
+  isRemovable-but-2 a b e h q p f = rw (eq-eqb (frontierDegree t v) 3 (sym e ∙ h), ne-eqb v (org ts 0) (λ z. p (z ∙ sym q)), f)
 
 module _ (ts : List ℕ) (t : Tables) (n v end : ℕ) where
-  pub scan-over : v < n → true ≡ isRemovable ts t v → firstInRange ts t (n - v) v ≡ end → v ≡ end
+  pub firstInRange-over : v < n → true ≡ isRemovable ts t v → firstInRange ts t (n - v) v ≡ end → v ≡ end
   unfolding firstInRange
-  scan-over h e i = let j : n - v ≡ suc (n - (v + 1)) = omega arith in rw (j, sym e) at i
+  firstInRange-over h e i = let j : n - v ≡ suc (n - (v + 1)) = omega arith in rw (j, sym e) at i
 
-  pub scan-more : v < n → false ≡ isRemovable ts t v → firstInRange ts t (n - v) v ≡ end → firstInRange ts t (n - (v + 1)) (v + 1) ≡ end
+  pub firstInRange-more : v < n → false ≡ isRemovable ts t v → firstInRange ts t (n - v) v ≡ end → firstInRange ts t (n - (v + 1)) (v + 1) ≡ end
   unfolding firstInRange
-  scan-more h e i =
+  firstInRange-more h e i =
       let j : n - v ≡ suc (n - (v + 1)) = omega arith in
       let k : suc v ≡ v + 1 = omega arith in
       rw (j, sym e, k) at i
 
-  pub scan-none : n ≤ v → firstInRange ts t (n - v) v ≡ end → v ≡ end
+  pub firstInRange-none : n ≤ v → firstInRange ts t (n - v) v ≡ end → v ≡ end
   unfolding firstInRange
-  scan-none h i = let j : n - v ≡ 0 = omega arith in rw j at i
+  firstInRange-none h i = let j : n - v ≡ 0 = omega arith in rw j at i
 
 module _ (ts : List ℕ) (n b : ℕ) (t : Tables) where
   -- the vertex that the scan of a block comes to
@@ -337,8 +337,8 @@ module _ (ts : List ℕ) (n b : ℕ) (t : Tables) where
   pub scanned : (end l from v : ℕ) → end ≡ min n (16 * b + 16) → l < 16 → from ≡ 16 * b + l → v ≡ firstInRange ts t (end - from) from →
       Scanned end from v
   scanned end l from v a h c d = record {
-    least = omega (arith, c, d, scan-least ts t (end - from) from);
-    most = omega (arith, a, c, d, scan-most ts t (end - from) from);
+    least = omega (arith, c, d, firstInRange-least ts t (end - from) from);
+    most = omega (arith, a, c, d, firstInRange-most ts t (end - from) from);
   }
 
   pub block-found : (end l from v : ℕ) (t′ : Tables) → l ≡ blockBound t b → l < 16 → end ≡ min n (16 * b + 16) → from ≡ 16 * b + l →
@@ -353,44 +353,44 @@ module _ (ts : List ℕ) (n b : ℕ) (t : Tables) where
   unfolding firstInBlock
   block-passed l e h = rw (le-ltb (blockBound t b) 16 (omega (arith, e)))
 
-find-suc : (ts : List ℕ) (n k b v : ℕ) (t t′ : Tables) → firstInBlock ts n b t ≡ record { vertex = v; tables = t′ }
+firstInBlocks-suc : (ts : List ℕ) (n k b v : ℕ) (t t′ : Tables) → firstInBlock ts n b t ≡ record { vertex = v; tables = t′ }
     → firstInBlocks ts n (suc k) b t ≡ cond (ltb v (blockEnd n b)) (record { vertex = v; tables = t′ }) (firstInBlocks ts n k (suc b) t′)
 unfolding firstInBlocks
-find-suc ts n k b v t t′ e = rw e
+firstInBlocks-suc ts n k b v t t′ e = rw e
 
 module _ (ts : List ℕ) (n end b v e : ℕ) (t t′ : Tables) (all : Found) where
-  pub find-over : b < end → firstInBlock ts n b t ≡ record { vertex = v; tables = t′ } → e ≡ min n (16 * b + 16) → v < e →
+  pub firstInBlocks-over : b < end → firstInBlock ts n b t ≡ record { vertex = v; tables = t′ } → e ≡ min n (16 * b + 16) → v < e →
       firstInBlocks ts n (end - b) b t ≡ all → all ≡ record { vertex = v; tables = t′ }
-  find-over h m q l i =
+  firstInBlocks-over h m q l i =
       let j : end - b ≡ suc (end - (b + 1)) = omega arith in
-      sym (rw (j, find-suc ts n (end - (b + 1)) b v t t′ m, lt-ltb v (blockEnd n b) (omega (arith, q))) at i)
+      sym (rw (j, firstInBlocks-suc ts n (end - (b + 1)) b v t t′ m, lt-ltb v (blockEnd n b) (omega (arith, q))) at i)
 
-  pub find-more : b < end → firstInBlock ts n b t ≡ record { vertex = v; tables = t′ } → e ≡ min n (16 * b + 16) → e ≤ v →
+  pub firstInBlocks-more : b < end → firstInBlock ts n b t ≡ record { vertex = v; tables = t′ } → e ≡ min n (16 * b + 16) → e ≤ v →
       firstInBlocks ts n (end - b) b t ≡ all → firstInBlocks ts n (end - (b + 1)) (b + 1) t′ ≡ all
-  find-more h m q l i =
+  firstInBlocks-more h m q l i =
       let j : end - b ≡ suc (end - (b + 1)) = omega arith in
       let k : suc b ≡ b + 1 = omega arith in
-      rw (j, find-suc ts n (end - (b + 1)) b v t t′ m, le-ltb v (blockEnd n b) (omega (arith, q)), k) at i
+      rw (j, firstInBlocks-suc ts n (end - (b + 1)) b v t t′ m, le-ltb v (blockEnd n b) (omega (arith, q)), k) at i
 
-pub find-none : (ts : List ℕ) (n end b : ℕ) (t : Tables) (all : Found) → end ≤ b → firstInBlocks ts n (end - b) b t ≡ all →
+pub firstInBlocks-none : (ts : List ℕ) (n end b : ℕ) (t : Tables) (all : Found) → end ≤ b → firstInBlocks ts n (end - b) b t ≡ all →
     all ≡ record { vertex = n; tables = t }
 unfolding firstInBlocks
-find-none ts n end b t all h i = let j : end - b ≡ 0 = omega arith in sym (rw j at i)
+firstInBlocks-none ts n end b t all h i = let j : end - b ≡ 0 = omega arith in sym (rw j at i)
 
 -- the search from block b on comes to the whole of it, s was the scratch at the start
-pub record Finding (ts : List ℕ) (n end from : ℕ) (s s′ : List ℤ) (b : ℕ) : Type 0 where
+pub record BlocksLoop (ts : List ℕ) (n end from : ℕ) (s s′ : List ℤ) (b : ℕ) : Type 0 where
   pub long : length s′ ≡ length s
   pub rest : firstInBlocks ts n (end - b) b (tablesOf s′) ≡ firstInBlocks ts n (end - from) from (tablesOf s)
 
 -- ---- the search by groups
 
-pub seat-in : (n v : ℕ) → v < n → (v / 16 % 16 ≡ blockInGroup n v) × (v / 16 % 16 < 32)
+pub blockInGroup-in : (n v : ℕ) → v < n → (v / 16 % 16 ≡ blockInGroup n v) × (v / 16 % 16 < 32)
 unfolding blockInGroup
-seat-in n v h = rw (lt-ltb v n h) (refl, omega arith)
+blockInGroup-in n v h = rw (lt-ltb v n h) (refl, omega arith)
 
-pub seat-past : (n v : ℕ) → n ≤ v → (16 ≡ blockInGroup n v) × (16 < 32)
+pub blockInGroup-past : (n v : ℕ) → n ≤ v → (16 ≡ blockInGroup n v) × (16 < 32)
 unfolding blockInGroup
-seat-past n v h = rw (le-ltb v n h) (refl, omega arith)
+blockInGroup-past n v h = rw (le-ltb v n h) (refl, omega arith)
 
 module _ (ts : List ℕ) (n g : ℕ) (t : Tables) where
   pub group-found : (end l from v y : ℕ) (t′ t″ : Tables) → l ≡ groupBound t g → l < 16 → end ≡ min (n / 16 + 1) (16 * g + 16) →
@@ -405,124 +405,124 @@ module _ (ts : List ℕ) (n g : ℕ) (t : Tables) where
   unfolding firstInGroup
   group-passed l e h = rw (le-ltb (groupBound t g) 16 (omega (arith, e)))
 
-seek-suc : (ts : List ℕ) (n k g v : ℕ) (t t′ : Tables) → firstInGroup ts n g t ≡ record { vertex = v; tables = t′ }
+firstRemovable-suc : (ts : List ℕ) (n k g v : ℕ) (t t′ : Tables) → firstInGroup ts n g t ≡ record { vertex = v; tables = t′ }
     → firstRemovable ts n (suc k) g t ≡ cond (ltb v n) (record { vertex = v; tables = t′ }) (firstRemovable ts n k (suc g) t′)
 unfolding firstRemovable
-seek-suc ts n k g v t t′ e = rw e
+firstRemovable-suc ts n k g v t t′ e = rw e
 
 module _ (ts : List ℕ) (n groups g v : ℕ) (t t′ : Tables) (all : Found) where
-  pub seek-over : g < groups → firstInGroup ts n g t ≡ record { vertex = v; tables = t′ } → v < n → firstRemovable ts n (groups - g) g t ≡ all →
+  pub firstRemovable-over : g < groups → firstInGroup ts n g t ≡ record { vertex = v; tables = t′ } → v < n → firstRemovable ts n (groups - g) g t ≡ all →
       all ≡ record { vertex = v; tables = t′ }
-  seek-over h e l i =
+  firstRemovable-over h e l i =
       let j : groups - g ≡ suc (groups - (g + 1)) = omega arith in
-      sym (rw (j, seek-suc ts n (groups - (g + 1)) g v t t′ e, lt-ltb v n l) at i)
+      sym (rw (j, firstRemovable-suc ts n (groups - (g + 1)) g v t t′ e, lt-ltb v n l) at i)
 
-  pub seek-more : g < groups → firstInGroup ts n g t ≡ record { vertex = v; tables = t′ } → n ≤ v → firstRemovable ts n (groups - g) g t ≡ all
+  pub firstRemovable-more : g < groups → firstInGroup ts n g t ≡ record { vertex = v; tables = t′ } → n ≤ v → firstRemovable ts n (groups - g) g t ≡ all
       → firstRemovable ts n (groups - (g + 1)) (g + 1) t′ ≡ all
-  seek-more h e l i =
+  firstRemovable-more h e l i =
       let j : groups - g ≡ suc (groups - (g + 1)) = omega arith in
       let k : suc g ≡ g + 1 = omega arith in
-      rw (j, seek-suc ts n (groups - (g + 1)) g v t t′ e, le-ltb v n l, k) at i
+      rw (j, firstRemovable-suc ts n (groups - (g + 1)) g v t t′ e, le-ltb v n l, k) at i
 
-pub seek-none : (ts : List ℕ) (n groups g : ℕ) (t : Tables) (all : Found) → groups ≤ g → firstRemovable ts n (groups - g) g t ≡ all →
+pub firstRemovable-none : (ts : List ℕ) (n groups g : ℕ) (t : Tables) (all : Found) → groups ≤ g → firstRemovable ts n (groups - g) g t ≡ all →
     all ≡ record { vertex = n; tables = t }
 unfolding firstRemovable
-seek-none ts n groups g t all h i = let j : groups - g ≡ 0 = omega arith in sym (rw j at i)
+firstRemovable-none ts n groups g t all h i = let j : groups - g ≡ 0 = omega arith in sym (rw j at i)
 
 -- the search from group g on comes to the whole of it, s was the scratch at the start
-pub record Seeking (ts : List ℕ) (n groups from : ℕ) (s s′ : List ℤ) (g : ℕ) : Type 0 where
+pub record GroupsLoop (ts : List ℕ) (n groups from : ℕ) (s s′ : List ℤ) (g : ℕ) : Type 0 where
   pub long : length s′ ≡ length s
   pub rest : firstRemovable ts n (groups - g) g (tablesOf s′) ≡ firstRemovable ts n (groups - from) from (tablesOf s)
 
-pub seeking-none : (ts : List ℕ) (n groups from : ℕ) (s : List ℤ) → Seeking ts n groups from s s from
-seeking-none ts n groups from s = record { long = refl; rest = refl }
+pub groups-loop-none : (ts : List ℕ) (n groups from : ℕ) (s : List ℤ) → GroupsLoop ts n groups from s s from
+groups-loop-none ts n groups from s = record { long = refl; rest = refl }
 
 -- ---- the vertices in turn
 
 module _ (ts : List ℕ) (n i v : ℕ) (t t′ : Tables) where
-  pub turn-leaves : (t″ t‴ : Tables) (from : ℕ) → from ≡ globalBound t → firstRemovable ts n (n / 256 + 1 - from) from t
+  pub removeNext-leaves : (t″ t‴ : Tables) (from : ℕ) → from ≡ globalBound t → firstRemovable ts n (n / 256 + 1 - from) from t
       ≡ record { vertex = v; tables = t′ } → v < n
       → t″ ≡ setGlobalBound (v / 256) t′ → t‴ ≡ removeVertex ts i v t″ → t‴ ≡ removeNext ts n i t
   unfolding removeNext
-  turn-leaves t″ t‴ from d e h p q = rw (← d, e, lt-ltb v n h) (q ∙ ap (removeVertex ts i v) p)
+  removeNext-leaves t″ t‴ from d e h p q = rw (← d, e, lt-ltb v n h) (q ∙ ap (removeVertex ts i v) p)
 
-  pub turn-stays : (from : ℕ) → from ≡ globalBound t → firstRemovable ts n (n / 256 + 1 - from) from t ≡ record { vertex = v; tables = t′ } →
+  pub removeNext-stays : (from : ℕ) → from ≡ globalBound t → firstRemovable ts n (n / 256 + 1 - from) from t ≡ record { vertex = v; tables = t′ } →
       n ≤ v → t′ ≡ removeNext ts n i t
   unfolding removeNext
-  turn-stays from d e h = rw (← d, e, le-ltb v n h)
+  removeNext-stays from d e h = rw (← d, e, le-ltb v n h)
 
 module _ (ts : List ℕ) (n i : ℕ) (t end : Tables) where
-  pub all-more : (t′ : Tables) → i + 2 < n → t′ ≡ removeNext ts n i t → removeAll ts n (n - 2 - i) i t ≡ end →
+  pub removeAll-more : (t′ : Tables) → i + 2 < n → t′ ≡ removeNext ts n i t → removeAll ts n (n - 2 - i) i t ≡ end →
       removeAll ts n (n - 2 - (i + 1)) (i + 1) t′ ≡ end
-  all-more t′ h e q =
+  removeAll-more t′ h e q =
       let j : n - 2 - i ≡ suc (n - 2 - (i + 1)) = omega arith in
       let k : suc i ≡ i + 1 = omega arith in
-      rw (j, all-suc ts n (n - 2 - (i + 1)) i t, sym e, k) at q
+      rw (j, removeAll-suc ts n (n - 2 - (i + 1)) i t, sym e, k) at q
 
-  pub all-over : n ≤ i + 2 → removeAll ts n (n - 2 - i) i t ≡ end → t ≡ end
+  pub removeAll-over : n ≤ i + 2 → removeAll ts n (n - 2 - i) i t ≡ end → t ≡ end
   unfolding removeAll
-  all-over h q = let j : n - 2 - i ≡ 0 = omega arith in rw j at q
+  removeAll-over h q = let j : n - 2 - i ≡ 0 = omega arith in rw j at q
 
 -- what is left of the removals comes to all of them, s was the scratch at the start
-pub record Turning (ts : List ℕ) (n : ℕ) (s s′ : List ℤ) (i : ℕ) : Type 0 where
+pub record RemovalLoop (ts : List ℕ) (n : ℕ) (s s′ : List ℤ) (i : ℕ) : Type 0 where
   pub long : length s′ ≡ length s
   pub within : i ≤ n
   pub rest : removeAll ts n (n - 2 - i) i (tablesOf s′) ≡ removeAll ts n (n - 2) 0 (tablesOf s)
 
-pub turning-none : (ts : List ℕ) (n : ℕ) (s : List ℤ) → Turning ts n s s 0
-turning-none ts n s = let j : n - 2 - 0 ≡ n - 2 = omega arith in record { long = refl; within = omega arith; rest = rw j }
+pub removal-loop-none : (ts : List ℕ) (n : ℕ) (s : List ℤ) → RemovalLoop ts n s s 0
+removal-loop-none ts n s = let j : n - 2 - 0 ≡ n - 2 = omega arith in record { long = refl; within = omega arith; rest = rw j }
 
 -- ---- the start
 
-wipe-suc : (k v : ℕ) (t : Tables) → clearDegrees (suc k) v t ≡ clearDegrees k (suc v) (setMark (2 * v) 0 t)
+clearDegrees-suc : (k v : ℕ) (t : Tables) → clearDegrees (suc k) v t ≡ clearDegrees k (suc v) (setMark (2 * v) 0 t)
 unfolding clearDegrees
-wipe-suc k v t = refl
+clearDegrees-suc k v t = refl
 
 module _ (n v : ℕ) (t t′ end : Tables) where
-  pub wipe-more : v < n → t′ ≡ setMark (2 * v) 0 t → clearDegrees (n - v) v t ≡ end → clearDegrees (n - (v + 1)) (v + 1) t′ ≡ end
-  wipe-more h e q =
+  pub clearDegrees-more : v < n → t′ ≡ setMark (2 * v) 0 t → clearDegrees (n - v) v t ≡ end → clearDegrees (n - (v + 1)) (v + 1) t′ ≡ end
+  clearDegrees-more h e q =
       let j : n - v ≡ suc (n - (v + 1)) = omega arith in
       let k : suc v ≡ v + 1 = omega arith in
-      rw (j, wipe-suc (n - (v + 1)) v t, sym e, k) at q
+      rw (j, clearDegrees-suc (n - (v + 1)) v t, sym e, k) at q
 
-pub wipe-over : (n v : ℕ) (t end : Tables) → n ≤ v → clearDegrees (n - v) v t ≡ end → t ≡ end
+pub clearDegrees-over : (n v : ℕ) (t end : Tables) → n ≤ v → clearDegrees (n - v) v t ≡ end → t ≡ end
 unfolding clearDegrees
-wipe-over n v t end h q = let j : n - v ≡ 0 = omega arith in rw j at q
+clearDegrees-over n v t end h q = let j : n - v ≡ 0 = omega arith in rw j at q
 
 -- the marks below v are wiped, s was the scratch at the start
-pub record Wiped (n : ℕ) (s s′ : List ℤ) (v : ℕ) : Type 0 where
+pub record ClearLoop (n : ℕ) (s s′ : List ℤ) (v : ℕ) : Type 0 where
   pub long : length s′ ≡ length s
   pub rest : clearDegrees (n - v) v (tablesOf s′) ≡ clearDegrees n 0 (tablesOf s)
 
-pub wiped-none : (n : ℕ) (s : List ℤ) → Wiped n s s 0
-wiped-none n s = let j : n - 0 ≡ n = omega arith in record { long = refl; rest = rw j }
+pub clear-loop-none : (n : ℕ) (s : List ℤ) → ClearLoop n s s 0
+clear-loop-none n s = let j : n - 0 ≡ n = omega arith in record { long = refl; rest = rw j }
 
-pub marks-is : (ts : List ℕ) (a b c : ℕ) (t t1 t2 t3 : Tables) → a ≡ org ts 0 → b ≡ org ts 1 → c ≡ org ts 2 → t1 ≡ setMark (2 * a) 3 t →
+pub initDegrees-is : (ts : List ℕ) (a b c : ℕ) (t t1 t2 t3 : Tables) → a ≡ org ts 0 → b ≡ org ts 1 → c ≡ org ts 2 → t1 ≡ setMark (2 * a) 3 t →
     t2 ≡ setMark (2 * b) 3 t1 → t3 ≡ setMark (2 * c) 3 t2
     → t3 ≡ initDegrees ts t
 unfolding initDegrees
-marks-is ts a b c t t1 t2 t3 x y z p q r = rw (sym x, sym y, sym z) (r ∙ ap (setMark (2 * c) 3) (q ∙ ap (setMark (2 * b) 3) p))
+initDegrees-is ts a b c t t1 t2 t3 x y z p q r = rw (sym x, sym y, sym z) (r ∙ ap (setMark (2 * c) 3) (q ∙ ap (setMark (2 * b) 3) p))
 
-pub edges-is : (ts : List ℕ) (a b c x y : ℕ) (t t1 t2 : Tables) → a ≡ org ts 0 → b ≡ org ts 1 → c ≡ org ts 2 → x ≡ oppositeIn (t .op) 0 →
+pub initFrontier-is : (ts : List ℕ) (a b c x y : ℕ) (t t1 t2 : Tables) → a ≡ org ts 0 → b ≡ org ts 1 → c ≡ org ts 2 → x ≡ oppositeIn (t .op) 0 →
     y ≡ oppositeIn (t .op) 1 → t1 ≡ addFrontierDart b a x t → t2 ≡ addFrontierDart c b y t1 → t2 ≡ initFrontier ts t
 unfolding initFrontier
-edges-is ts a b c x y t t1 t2 d e f i j p q = rw (sym d, sym e, sym f, sym i, sym j) (q ∙ ap (addFrontierDart c b y) p)
+initFrontier-is ts a b c x y t t1 t2 d e f i j p q = rw (sym d, sym e, sym f, sym i, sym j) (q ∙ ap (addFrontierDart c b y) p)
 
-pub labels-is : (i a j b k c : ℕ) (t t1 t2 t3 : Tables) → i ≡ oppositeIn (t .op) 0 → a ≡ dartWord i 3 → j ≡ oppositeIn (t .op) 1 → b ≡ dartWord j 3 →
+pub initLabels-is : (i a j b k c : ℕ) (t t1 t2 t3 : Tables) → i ≡ oppositeIn (t .op) 0 → a ≡ dartWord i 3 → j ≡ oppositeIn (t .op) 1 → b ≡ dartWord j 3 →
     k ≡ oppositeIn (t .op) 2 → c ≡ dartWord k 3
     → t1 ≡ setOp 0 a t → t2 ≡ setOp 1 b t1 → t3 ≡ setOp 2 c t2 → t3 ≡ initLabels t
 unfolding initLabels
-labels-is i a j b k c t t1 t2 t3 ie ae je be ke ce x y z =
+initLabels-is i a j b k c t t1 t2 t3 ie ae je be ke ce x y z =
     let u : a ≡ dartWord (oppositeIn (t .op) 0) 3 = ae ∙ ap (λ (m : ℕ). dartWord m 3) ie in
     let v : b ≡ dartWord (oppositeIn (t .op) 1) 3 = be ∙ ap (λ (m : ℕ). dartWord m 3) je in
     let w : c ≡ dartWord (oppositeIn (t .op) 2) 3 = ce ∙ ap (λ (m : ℕ). dartWord m 3) ke in
     rw (sym u, sym v, sym w) (z ∙ ap (setOp 2 c) (y ∙ ap (setOp 1 b) x))
 
-pub begin-is : (ts : List ℕ) (n : ℕ) (t t1 t2 t3 t4 : Tables) → t1 ≡ clearDegrees n 0 t → t2 ≡ initDegrees ts t1 → t3 ≡ initFrontier ts t2 →
+pub init-is : (ts : List ℕ) (n : ℕ) (t t1 t2 t3 t4 : Tables) → t1 ≡ clearDegrees n 0 t → t2 ≡ initDegrees ts t1 → t3 ≡ initFrontier ts t2 →
     t4 ≡ initLabels t3 → t4 ≡ init ts n t
 unfolding init
-begin-is ts n t t1 t2 t3 t4 a b c d = d ∙ ap initLabels (c ∙ ap (initFrontier ts) (b ∙ ap (initDegrees ts) a))
+init-is ts n t t1 t2 t3 t4 a b c d = d ∙ ap initLabels (c ∙ ap (initFrontier ts) (b ∙ ap (initDegrees ts) a))
 
-pub stage-is : (ts : List ℕ) (n : ℕ) (t t1 t2 : Tables) → t1 ≡ init ts n t → t2 ≡ removeAll ts n (n - 2) 0 t1 → t2 ≡ peelTables ts n t
+pub peelTables-is : (ts : List ℕ) (n : ℕ) (t t1 t2 : Tables) → t1 ≡ init ts n t → t2 ≡ removeAll ts n (n - 2) 0 t1 → t2 ≡ peelTables ts n t
 unfolding peelTables
-stage-is ts n t t1 t2 a b = b ∙ ap (removeAll ts n (n - 2) 0) a
+peelTables-is ts n t t1 t2 a b = b ∙ ap (removeAll ts n (n - 2) 0) a

@@ -1,6 +1,6 @@
 -- `labels_peel::count_neighbour` meets its contract. Assumes nothing.
 use native.Mathlib.Omega.{arith}
-use Rattle.labels_peel.specs.LoopLaws.{meet-on, meet-off}
+use Rattle.labels_peel.specs.LoopLaws.{countNeighbour-on, countNeighbour-off}
 use borrow.Author.Needs.{needs}
 use Rattle.labels_peel.proofs.count_neighbour.Statement.{statement}
 use Rattle.labels_peel.proofs.count_neighbour.Tie as tie
@@ -17,10 +17,10 @@ add-result : tie.Need-add-result
 add-result c = omega arith
 
 returns : tie.Need-returns
-returns c = search (meet-on, needs)
+returns c = search (countNeighbour-on, needs)
 
 returns-2 : tie.Need-returns-2
-returns-2 c = search (meet-off, needs)
+returns-2 c = search (countNeighbour-off, needs)
 
 pub count-neighbour-spec : {M : Type 1} → statement M
 count-neighbour-spec =

@@ -1,6 +1,6 @@
 -- `labels_peel::decrement_degree` meets its contract. Assumes nothing.
 use native.Mathlib.Omega.{arith}
-use Rattle.labels_peel.specs.LoopLaws.{less-down, less-none}
+use Rattle.labels_peel.specs.LoopLaws.{decrementDegree-down, decrementDegree-none}
 use borrow.Author.Needs.{needs}
 use Rattle.labels_peel.proofs.decrement_degree.Statement.{statement}
 use Rattle.labels_peel.proofs.decrement_degree.Tie as tie
@@ -18,10 +18,10 @@ set-degree-requires-2 : tie.Need-set-degree-requires-2
 set-degree-requires-2 c κs = omega arith
 
 returns : tie.Need-returns
-returns c = search less-down
+returns c = search decrementDegree-down
 
 returns-2 : tie.Need-returns-2
-returns-2 c = search less-none
+returns-2 c = search decrementDegree-none
 
 pub decrement-degree-spec : {M : Type 1} → statement M
 decrement-degree-spec =

@@ -2,13 +2,13 @@
 use native.Mathlib.Omega.{arith}
 use Prim.Native.Nat.{_-_}
 use mathlib.Core.Path.{refl}
-use Rattle.labels_peel.specs.LoopLaws.{Finding, find-over, find-more, find-none}
+use Rattle.labels_peel.specs.LoopLaws.{BlocksLoop, firstInBlocks-over, firstInBlocks-more, firstInBlocks-none}
 use borrow.Author.Needs.{needs}
 use Rattle.labels_peel.proofs.first_in_blocks.Statement.{statement}
 use Rattle.labels_peel.proofs.first_in_blocks.Tie as tie
 
 abbrev Inv-loop : tie.InvT-loop
-Inv-loop n triangles s₀ end from b₀ s b = Finding triangles n end from s₀ s b
+Inv-loop n triangles s₀ end from b₀ s b = BlocksLoop triangles n end from s₀ s b
 
 abbrev μ-loop : tie.MeasureT-loop
 μ-loop n triangles s₀ end from b₀ s b = end - b
@@ -29,7 +29,7 @@ same-length : tie.Need-same-length Inv-loop μ-loop
 same-length c = omega arith
 
 returns : tie.Need-returns Inv-loop μ-loop
-returns c = search find-over
+returns c = search firstInBlocks-over
 
 add-b : tie.Need-add-b Inv-loop μ-loop
 add-b c = omega arith
@@ -38,13 +38,13 @@ loop-less : tie.Need-loop-less Inv-loop μ-loop
 loop-less c = omega arith
 
 loop-again : tie.Need-loop-again Inv-loop μ-loop
-loop-again c = search (find-more, needs)
+loop-again c = search (firstInBlocks-more, needs)
 
 same-length-2 : tie.Need-same-length-2 Inv-loop μ-loop
 same-length-2 c = omega arith
 
 returns-2 : tie.Need-returns-2 Inv-loop μ-loop
-returns-2 c = search find-none
+returns-2 c = search firstInBlocks-none
 
 pub first-in-blocks-spec : {M : Type 1} → statement M
 first-in-blocks-spec =

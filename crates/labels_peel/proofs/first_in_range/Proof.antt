@@ -4,7 +4,7 @@ use Prim.Native.Nat.{_-_}
 use mathlib.Core.Path.{_≡_, refl, _∙_, sym}
 use Rattle.scratch_tables.specs.Tables.{tablesOf}
 use Rattle.labels_model.specs.Model.{firstInRange}
-use Rattle.labels_peel.specs.LoopLaws.{scan-over, scan-more, scan-none}
+use Rattle.labels_peel.specs.LoopLaws.{firstInRange-over, firstInRange-more, firstInRange-none}
 use Rattle.labels_peel.proofs.first_in_range.Statement.{statement}
 use Rattle.labels_peel.proofs.first_in_range.Tie as tie
 
@@ -24,7 +24,7 @@ returns : tie.Need-returns Inv-loop μ-loop
 returns c = let start : tie.Start Inv-loop μ-loop = search in
     let at-loop : tie.At-loop Inv-loop μ-loop = search in
     let in-loop : tie.In-loop Inv-loop μ-loop = search in
-    scan-over _ _ (start .args .end) (at-loop .loop .v) _ (in-loop .loop-test .taken)
+    firstInRange-over _ _ (start .args .end) (at-loop .loop .v) _ (in-loop .loop-test .taken)
     (sym (search) ∙ c .before .is-removable .ensures) (at-loop .loop .inv)
 
 add-v : tie.Need-add-v Inv-loop μ-loop
@@ -37,11 +37,11 @@ loop-again : tie.Need-loop-again Inv-loop μ-loop
 loop-again c = let start : tie.Start Inv-loop μ-loop = search in
     let at-loop : tie.At-loop Inv-loop μ-loop = search in
     let in-loop : tie.In-loop Inv-loop μ-loop = search in
-    scan-more _ _ (start .args .end) (at-loop .loop .v) _
+    firstInRange-more _ _ (start .args .end) (at-loop .loop .v) _
     (in-loop .loop-test .taken) (sym (search) ∙ c .before .is-removable .ensures) (at-loop .loop .inv)
 
 returns-2 : tie.Need-returns-2 Inv-loop μ-loop
-returns-2 c = search scan-none
+returns-2 c = search firstInRange-none
 
 pub first-in-range-spec : {M : Type 1} → statement M
 first-in-range-spec =

@@ -2,12 +2,12 @@
 use borrow.Author.Needs.{needs}
 use Prim.Native.Nat.{_-_}
 use native.Mathlib.Omega.{arith}
-use Rattle.labels_peel.specs.LoopLaws.{Seeking, seek-over, seek-more, seek-none}
+use Rattle.labels_peel.specs.LoopLaws.{GroupsLoop, firstRemovable-over, firstRemovable-more, firstRemovable-none}
 use Rattle.labels_peel.proofs.first_removable.Statement.{statement}
 use Rattle.labels_peel.proofs.first_removable.Tie as tie
 
 abbrev Inv-loop : tie.InvT-loop
-Inv-loop n triangles s₀ from groups g₀ s g = Seeking triangles n groups from s₀ s g
+Inv-loop n triangles s₀ from groups g₀ s g = GroupsLoop triangles n groups from s₀ s g
 
 abbrev μ-loop : tie.MeasureT-loop
 μ-loop n triangles s₀ from groups g₀ s g = groups - g
@@ -22,7 +22,7 @@ same-length : tie.Need-same-length Inv-loop μ-loop
 same-length c = omega arith
 
 returns : tie.Need-returns Inv-loop μ-loop
-returns c = search seek-over
+returns c = search firstRemovable-over
 
 add-g : tie.Need-add-g Inv-loop μ-loop
 add-g c = omega arith
@@ -31,13 +31,13 @@ loop-less : tie.Need-loop-less Inv-loop μ-loop
 loop-less c = omega arith
 
 loop-again : tie.Need-loop-again Inv-loop μ-loop
-loop-again c = search (seek-more, needs)
+loop-again c = search (firstRemovable-more, needs)
 
 same-length-2 : tie.Need-same-length-2 Inv-loop μ-loop
 same-length-2 c = omega arith
 
 returns-2 : tie.Need-returns-2 Inv-loop μ-loop
-returns-2 c = search seek-none
+returns-2 c = search firstRemovable-none
 
 pub first-removable-spec : {M : Type 1} → statement M
 first-removable-spec =

@@ -1,6 +1,6 @@
 -- `labels_peel::increment_degree` meets its contract. Assumes nothing.
 use native.Mathlib.Omega.{arith}
-use Rattle.labels_peel.specs.LoopLaws.{more-up, more-full}
+use Rattle.labels_peel.specs.LoopLaws.{incrementDegree-up, incrementDegree-full}
 use borrow.Author.Needs.{needs}
 use Rattle.labels_peel.proofs.increment_degree.Statement.{statement}
 use Rattle.labels_peel.proofs.increment_degree.Tie as tie
@@ -15,10 +15,10 @@ set-degree-requires : tie.Need-set-degree-requires
 set-degree-requires c κs = omega arith
 
 returns : tie.Need-returns
-returns c = search more-up
+returns c = search incrementDegree-up
 
 returns-2 : tie.Need-returns-2
-returns-2 c = search more-full
+returns-2 c = search incrementDegree-full
 
 pub increment-degree-spec : {M : Type 1} → statement M
 increment-degree-spec =

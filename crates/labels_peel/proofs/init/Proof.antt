@@ -1,6 +1,6 @@
 -- `labels_peel::init` meets its contract. Assumes nothing.
 use native.Mathlib.Omega.{arith}
-use Rattle.labels_peel.specs.LoopLaws.{room-kept, begin-is}
+use Rattle.labels_peel.specs.LoopLaws.{room-kept, init-is}
 use borrow.Author.Needs.{needs}
 use Rattle.labels_peel.proofs.init.Statement.{statement}
 use Rattle.labels_peel.proofs.init.Tie as tie
@@ -26,7 +26,7 @@ init-labels-requires c κs =
     )
 
 returns : tie.Need-returns
-returns c = search begin-is
+returns c = search init-is
 
 pub init-spec : {M : Type 1} → statement M
 init-spec =

@@ -1,7 +1,7 @@
 -- `labels_peel::init_degrees` meets its contract. Assumes nothing.
 use native.Mathlib.Omega.{arith}
 use mathlib.Core.Path.{_∙_}
-use Rattle.labels_peel.specs.LoopLaws.{holds-kept, org-holds, mark-room, marks-is}
+use Rattle.labels_peel.specs.LoopLaws.{holds-kept, org-holds, mark-room, initDegrees-is}
 use borrow.Author.Needs.{needs}
 use Rattle.labels_peel.proofs.init_degrees.Statement.{statement}
 use Rattle.labels_peel.proofs.init_degrees.Tie as tie
@@ -26,7 +26,7 @@ set-mark-requires-3 c κs =
     )
 
 returns : tie.Need-returns
-returns c = search marks-is
+returns c = search initDegrees-is
 
 pub init-degrees-spec : {M : Type 1} → statement M
 init-degrees-spec =

@@ -1,5 +1,5 @@
 -- `labels_peel::init_frontier` meets its contract. Assumes nothing.
-use Rattle.labels_peel.specs.LoopLaws.{holds-kept, org-holds, edges-is}
+use Rattle.labels_peel.specs.LoopLaws.{holds-kept, org-holds, initFrontier-is}
 use borrow.Author.Needs.{needs}
 use Rattle.labels_peel.proofs.init_frontier.Statement.{statement}
 use Rattle.labels_peel.proofs.init_frontier.Tie as tie
@@ -11,7 +11,7 @@ add-frontier-dart-requires-2 : tie.Need-add-frontier-dart-requires-2
 add-frontier-dart-requires-2 c κs = search (holds-kept, org-holds, needs)
 
 returns : tie.Need-returns
-returns c = search edges-is
+returns c = search initFrontier-is
 
 pub init-frontier-spec : {M : Type 1} → statement M
 init-frontier-spec =

@@ -1,6 +1,6 @@
 -- `labels_peel::init_labels` meets its contract. Assumes nothing.
 use native.Mathlib.Omega.{arith}
-use Rattle.labels_peel.specs.LoopLaws.{labels-is}
+use Rattle.labels_peel.specs.LoopLaws.{initLabels-is}
 use borrow.Author.Needs.{needs}
 use Rattle.labels_peel.proofs.init_labels.Statement.{statement}
 use Rattle.labels_peel.proofs.init_labels.Tie as tie
@@ -15,7 +15,7 @@ set-op-requires-3 : tie.Need-set-op-requires-3
 set-op-requires-3 c κs = omega arith
 
 returns : tie.Need-returns
-returns c = search labels-is
+returns c = search initLabels-is
 
 pub init-labels-spec : {M : Type 1} → statement M
 init-labels-spec =

@@ -1,6 +1,6 @@
 -- `labels_peel::is_removable` meets its contract. Assumes nothing.
 use native.Mathlib.Omega.{arith}
-use Rattle.labels_peel.specs.LoopLaws.{can-not, can-not-0, can-but-2}
+use Rattle.labels_peel.specs.LoopLaws.{isRemovable-not, isRemovable-not-0, isRemovable-but-2}
 use borrow.Author.Needs.{needs}
 use Rattle.labels_peel.proofs.is_removable.Statement.{statement}
 use Rattle.labels_peel.proofs.is_removable.Tie as tie
@@ -9,13 +9,13 @@ frontier-degree-requires : tie.Need-frontier-degree-requires
 frontier-degree-requires c κs = omega arith
 
 returns : tie.Need-returns
-returns c = search can-not
+returns c = search isRemovable-not
 
 returns-2 : tie.Need-returns-2
-returns-2 c = search can-not-0
+returns-2 c = search isRemovable-not-0
 
 returns-3 : tie.Need-returns-3
-returns-3 c = search can-but-2
+returns-3 c = search isRemovable-but-2
 
 pub is-removable-spec : {M : Type 1} → statement M
 is-removable-spec =

@@ -1,6 +1,6 @@
 -- `labels_peel::leave_frontier` meets its contract. Assumes nothing.
 use native.Mathlib.Omega.{arith}
-use Rattle.labels_peel.specs.LoopLaws.{gone-is}
+use Rattle.labels_peel.specs.LoopLaws.{leaveFrontier-is}
 use borrow.Author.Needs.{needs}
 use Rattle.labels_peel.proofs.leave_frontier.Statement.{statement}
 use Rattle.labels_peel.proofs.leave_frontier.Tie as tie
@@ -24,7 +24,7 @@ set-mark-requires : tie.Need-set-mark-requires
 set-mark-requires c κs = omega arith
 
 returns : tie.Need-returns
-returns c = search gone-is
+returns c = search leaveFrontier-is
 
 pub leave-frontier-spec : {M : Type 1} → statement M
 leave-frontier-spec =

@@ -1,6 +1,6 @@
 -- `labels_peel::lower_block_bound` meets its contract. Assumes nothing.
 use native.Mathlib.Omega.{arith}
-use Rattle.labels_peel.specs.LoopLaws.{block-is}
+use Rattle.labels_peel.specs.LoopLaws.{lowerBlockBound-is}
 use borrow.Author.Needs.{needs}
 use Rattle.labels_peel.proofs.lower_block_bound.Statement.{statement}
 use Rattle.labels_peel.proofs.lower_block_bound.Tie as tie
@@ -12,7 +12,7 @@ set-block-bound-requires : tie.Need-set-block-bound-requires
 set-block-bound-requires c κs = omega arith
 
 returns : tie.Need-returns
-returns c = search block-is
+returns c = search lowerBlockBound-is
 
 pub lower-block-bound-spec : {M : Type 1} → statement M
 lower-block-bound-spec =

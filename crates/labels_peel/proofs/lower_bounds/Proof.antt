@@ -1,6 +1,6 @@
 -- `labels_peel::lower_bounds` meets its contract. Assumes nothing.
 use native.Mathlib.Omega.{arith}
-use Rattle.labels_peel.specs.LoopLaws.{wake-is}
+use Rattle.labels_peel.specs.LoopLaws.{lowerBounds-is}
 use borrow.Author.Needs.{needs}
 use Rattle.labels_peel.proofs.lower_bounds.Statement.{statement}
 use Rattle.labels_peel.proofs.lower_bounds.Tie as tie
@@ -12,7 +12,7 @@ lower-global-bound-requires : tie.Need-lower-global-bound-requires
 lower-global-bound-requires c κs = omega arith
 
 returns : tie.Need-returns
-returns c = search wake-is
+returns c = search lowerBounds-is
 
 pub lower-bounds-spec : {M : Type 1} → statement M
 lower-bounds-spec =

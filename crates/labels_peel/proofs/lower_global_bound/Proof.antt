@@ -1,6 +1,6 @@
 -- `labels_peel::lower_global_bound` meets its contract. Assumes nothing.
 use native.Mathlib.Omega.{arith}
-use Rattle.labels_peel.specs.LoopLaws.{all-groups-is}
+use Rattle.labels_peel.specs.LoopLaws.{lowerGlobalBound-is}
 use borrow.Author.Needs.{needs}
 use Rattle.labels_peel.proofs.lower_global_bound.Statement.{statement}
 use Rattle.labels_peel.proofs.lower_global_bound.Tie as tie
@@ -9,7 +9,7 @@ set-global-bound-requires : tie.Need-set-global-bound-requires
 set-global-bound-requires c κs = omega arith
 
 returns : tie.Need-returns
-returns c = search all-groups-is
+returns c = search lowerGlobalBound-is
 
 pub lower-global-bound-spec : {M : Type 1} → statement M
 lower-global-bound-spec =

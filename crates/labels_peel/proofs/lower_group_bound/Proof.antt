@@ -1,6 +1,6 @@
 -- `labels_peel::lower_group_bound` meets its contract. Assumes nothing.
 use native.Mathlib.Omega.{arith}
-use Rattle.labels_peel.specs.LoopLaws.{group-is}
+use Rattle.labels_peel.specs.LoopLaws.{lowerGroupBound-is}
 use borrow.Author.Needs.{needs}
 use Rattle.labels_peel.proofs.lower_group_bound.Statement.{statement}
 use Rattle.labels_peel.proofs.lower_group_bound.Tie as tie
@@ -12,7 +12,7 @@ set-group-bound-requires : tie.Need-set-group-bound-requires
 set-group-bound-requires c κs = omega arith
 
 returns : tie.Need-returns
-returns c = search group-is
+returns c = search lowerGroupBound-is
 
 pub lower-group-bound-spec : {M : Type 1} → statement M
 lower-group-bound-spec =

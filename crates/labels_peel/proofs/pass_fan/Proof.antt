@@ -1,13 +1,13 @@
 -- `labels_peel::pass_fan` meets its contract: the rest of the fan comes to the whole of it. Assumes nothing.
 use native.Mathlib.Omega.{arith}
 use mathlib.Core.Path.{_∙_}
-use Rattle.labels_peel.specs.LoopLaws.{Fanning, holds-kept, room-kept, org-holds, prev-small, fan-over, fan-more, fan-none}
+use Rattle.labels_peel.specs.LoopLaws.{FanLoop, holds-kept, room-kept, org-holds, prev-small, passFan-over, passFan-more, passFan-none}
 use borrow.Author.Needs.{needs}
 use Rattle.labels_peel.proofs.pass_fan.Statement.{statement}
 use Rattle.labels_peel.proofs.pass_fan.Tie as tie
 
 abbrev Inv-loop : tie.InvT-loop
-Inv-loop triangles s₀ right first g₀ k₀ s g k = Fanning triangles right first s₀ s k g
+Inv-loop triangles s₀ right first g₀ k₀ s g k = FanLoop triangles right first s₀ s k g
 
 abbrev μ-loop : tie.MeasureT-loop
 μ-loop triangles s₀ right first g₀ k₀ s g k = k
@@ -22,7 +22,7 @@ same-length : tie.Need-same-length Inv-loop μ-loop
 same-length c = omega arith
 
 returns : tie.Need-returns Inv-loop μ-loop
-returns c = search fan-over
+returns c = search passFan-over
 
 enter-frontier-requires : tie.Need-enter-frontier-requires Inv-loop μ-loop
 enter-frontier-requires c κs =
@@ -53,13 +53,13 @@ loop-less : tie.Need-loop-less Inv-loop μ-loop
 loop-less c = omega arith
 
 loop-again : tie.Need-loop-again Inv-loop μ-loop
-loop-again c = search (fan-more, needs)
+loop-again c = search (passFan-more, needs)
 
 same-length-2 : tie.Need-same-length-2 Inv-loop μ-loop
 same-length-2 c = omega arith
 
 returns-2 : tie.Need-returns-2 Inv-loop μ-loop
-returns-2 c = search fan-none
+returns-2 c = search passFan-none
 
 pub pass-fan-spec : {M : Type 1} → statement M
 pass-fan-spec =

@@ -1,6 +1,6 @@
 -- `labels_peel::pass_triangle` meets its contract. Assumes nothing.
 use native.Mathlib.Omega.{arith}
-use Rattle.labels_peel.specs.LoopLaws.{holds-kept, org-holds, pass-is, pass-none}
+use Rattle.labels_peel.specs.LoopLaws.{holds-kept, org-holds, passTriangle-is, passTriangle-none}
 use borrow.Author.Needs.{needs}
 use Rattle.labels_peel.proofs.pass_triangle.Statement.{statement}
 use Rattle.labels_peel.proofs.pass_triangle.Tie as tie
@@ -23,10 +23,10 @@ add-frontier-dart-requires : tie.Need-add-frontier-dart-requires
 add-frontier-dart-requires c κs = search (holds-kept, org-holds, needs)
 
 returns : tie.Need-returns
-returns c = search pass-is
+returns c = search passTriangle-is
 
 returns-2 : tie.Need-returns-2
-returns-2 c = search pass-none
+returns-2 c = search passTriangle-none
 
 pub pass-triangle-spec : {M : Type 1} → statement M
 pass-triangle-spec =

@@ -2,24 +2,24 @@
 use borrow.Author.Needs.{needs}
 use native.Mathlib.Omega.{arith}
 use Prim.Native.Nat.{_-_}
-use Rattle.labels_peel.specs.LoopLaws.{Turning, turning-none, room-kept, wide-kept, all-more, all-over}
+use Rattle.labels_peel.specs.LoopLaws.{RemovalLoop, removal-loop-none, room-kept, vertices-kept, removeAll-more, removeAll-over}
 use Rattle.labels_peel.proofs.remove_all.Statement.{statement}
 use Rattle.labels_peel.proofs.remove_all.Tie as tie
 
 abbrev Inv-loop : tie.InvT-loop
-Inv-loop n triangles s₀ i₀ s i = Turning triangles n s₀ s i
+Inv-loop n triangles s₀ i₀ s i = RemovalLoop triangles n s₀ s i
 
 abbrev μ-loop : tie.MeasureT-loop
 μ-loop n triangles s₀ i₀ s i = n - i
 
 loop-holds : tie.Need-loop-holds Inv-loop μ-loop
-loop-holds c = search turning-none
+loop-holds c = search removal-loop-none
 
 add-loop : tie.Need-add-loop Inv-loop μ-loop
 add-loop c = omega arith
 
 remove-next-requires : tie.Need-remove-next-requires Inv-loop μ-loop
-remove-next-requires c κs = search (room-kept, wide-kept, needs)
+remove-next-requires c κs = search (room-kept, vertices-kept, needs)
 
 add-i : tie.Need-add-i Inv-loop μ-loop
 add-i c = omega arith
@@ -28,13 +28,13 @@ loop-less : tie.Need-loop-less Inv-loop μ-loop
 loop-less c = omega arith
 
 loop-again : tie.Need-loop-again Inv-loop μ-loop
-loop-again c = search (all-more, needs)
+loop-again c = search (removeAll-more, needs)
 
 same-length : tie.Need-same-length Inv-loop μ-loop
 same-length c = omega arith
 
 returns : tie.Need-returns Inv-loop μ-loop
-returns c = search all-over
+returns c = search removeAll-over
 
 pub remove-all-spec : {M : Type 1} → statement M
 remove-all-spec =

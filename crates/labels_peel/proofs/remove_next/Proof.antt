@@ -1,7 +1,7 @@
 -- `labels_peel::remove_next` meets its contract. Assumes nothing.
 use mathlib.Core.Path.{_∙_}
 use native.Mathlib.Omega.{arith}
-use Rattle.labels_peel.specs.LoopLaws.{room-kept, holds-kept, below-holds, turn-leaves, turn-stays}
+use Rattle.labels_peel.specs.LoopLaws.{room-kept, holds-kept, below-holds, removeNext-leaves, removeNext-stays}
 use borrow.Author.Needs.{needs}
 use Rattle.labels_peel.proofs.remove_next.Statement.{statement}
 use Rattle.labels_peel.proofs.remove_next.Tie as tie
@@ -27,10 +27,10 @@ remove-vertex-requires c κs =
     )
 
 returns : tie.Need-returns
-returns c = search turn-leaves
+returns c = search removeNext-leaves
 
 returns-2 : tie.Need-returns-2
-returns-2 c = search turn-stays
+returns-2 c = search removeNext-stays
 
 pub remove-next-spec : {M : Type 1} → statement M
 remove-next-spec =

@@ -1,6 +1,6 @@
 -- `labels_peel::remove_vertex` meets its contract. Assumes nothing.
 use native.Mathlib.Omega.{arith}
-use Rattle.labels_peel.specs.LoopLaws.{org-holds, tip-holds, room-kept, small-past, leave-is}
+use Rattle.labels_peel.specs.LoopLaws.{org-holds, tip-holds, room-kept, small-past, removeVertex-is}
 use borrow.Author.Needs.{needs}
 use Rattle.labels_peel.proofs.remove_vertex.Statement.{statement}
 use Rattle.labels_peel.proofs.remove_vertex.Tie as tie
@@ -15,7 +15,7 @@ pass-fan-requires : tie.Need-pass-fan-requires
 pass-fan-requires c κs = search (room-kept, small-past)
 
 returns : tie.Need-returns
-returns c = search leave-is
+returns c = search removeVertex-is
 
 pub remove-vertex-spec : {M : Type 1} → statement M
 remove-vertex-spec =

@@ -1,6 +1,6 @@
 -- `labels_peel::set_block_bound` meets its contract. Assumes nothing.
 use native.Mathlib.Omega.{arith}
-use Rattle.labels_peel.specs.LoopLaws.{setLow-is}
+use Rattle.labels_peel.specs.LoopLaws.{setBlockBound-is}
 use borrow.Author.Needs.{needs}
 use Rattle.labels_peel.proofs.set_block_bound.Statement.{statement}
 use Rattle.labels_peel.proofs.set_block_bound.Tie as tie
@@ -27,7 +27,7 @@ set-mark-requires : tie.Need-set-mark-requires
 set-mark-requires c κs = omega arith
 
 returns : tie.Need-returns
-returns c = search setLow-is
+returns c = search setBlockBound-is
 
 pub set-block-bound-spec : {M : Type 1} → statement M
 set-block-bound-spec =

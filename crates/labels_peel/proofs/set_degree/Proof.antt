@@ -1,6 +1,6 @@
 -- `labels_peel::set_degree` meets its contract. Assumes nothing.
 use native.Mathlib.Omega.{arith}
-use Rattle.labels_peel.specs.LoopLaws.{put-on, put-off}
+use Rattle.labels_peel.specs.LoopLaws.{setDegree-three, setDegree-other}
 use borrow.Author.Needs.{needs}
 use Rattle.labels_peel.proofs.set_degree.Statement.{statement}
 use Rattle.labels_peel.proofs.set_degree.Tie as tie
@@ -12,10 +12,10 @@ lower-bounds-requires : tie.Need-lower-bounds-requires
 lower-bounds-requires c κs = omega arith
 
 returns : tie.Need-returns
-returns c = search put-on
+returns c = search setDegree-three
 
 returns-2 : tie.Need-returns-2
-returns-2 c = search put-off
+returns-2 c = search setDegree-other
 
 pub set-degree-spec : {M : Type 1} → statement M
 set-degree-spec =

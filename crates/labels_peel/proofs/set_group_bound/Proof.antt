@@ -1,6 +1,6 @@
 -- `labels_peel::set_group_bound` meets its contract. Assumes nothing.
 use native.Mathlib.Omega.{arith}
-use Rattle.labels_peel.specs.LoopLaws.{setTop-is}
+use Rattle.labels_peel.specs.LoopLaws.{setGroupBound-is}
 use borrow.Author.Needs.{needs}
 use Rattle.labels_peel.proofs.set_group_bound.Statement.{statement}
 use Rattle.labels_peel.proofs.set_group_bound.Tie as tie
@@ -15,7 +15,7 @@ set-mark-requires : tie.Need-set-mark-requires
 set-mark-requires c κs = omega arith
 
 returns : tie.Need-returns
-returns c = search setTop-is
+returns c = search setGroupBound-is
 
 pub set-group-bound-spec : {M : Type 1} → statement M
 set-group-bound-spec =

@@ -1,6 +1,6 @@
 -- `labels_peel::set_labels` meets its contract. Assumes nothing.
 use native.Mathlib.Omega.{arith}
-use Rattle.labels_peel.specs.LoopLaws.{tag-is}
+use Rattle.labels_peel.specs.LoopLaws.{setLabels-is}
 use borrow.Author.Needs.{needs}
 use Rattle.labels_peel.proofs.set_labels.Statement.{statement}
 use Rattle.labels_peel.proofs.set_labels.Tie as tie
@@ -21,7 +21,7 @@ set-op-requires-3 : tie.Need-set-op-requires-3
 set-op-requires-3 c κs = omega arith
 
 returns : tie.Need-returns
-returns c = search tag-is
+returns c = search setLabels-is
 
 pub set-labels-spec : {M : Type 1} → statement M
 set-labels-spec =

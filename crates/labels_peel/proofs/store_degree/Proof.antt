@@ -1,6 +1,6 @@
 -- `labels_peel::store_degree` meets its contract. Assumes nothing.
 use native.Mathlib.Omega.{arith}
-use Rattle.labels_peel.specs.LoopLaws.{setNear-is}
+use Rattle.labels_peel.specs.LoopLaws.{storeDegree-is}
 use borrow.Author.Needs.{needs}
 use Rattle.labels_peel.proofs.store_degree.Statement.{statement}
 use Rattle.labels_peel.proofs.store_degree.Tie as tie
@@ -21,7 +21,7 @@ set-mark-requires : tie.Need-set-mark-requires
 set-mark-requires c κs = omega arith
 
 returns : tie.Need-returns
-returns c = search setNear-is
+returns c = search storeDegree-is
 
 pub store-degree-spec : {M : Type 1} → statement M
 store-degree-spec =
