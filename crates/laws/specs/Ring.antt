@@ -57,8 +57,7 @@ smaller a y z w h k l =
     rw (ez, ew) (grown a y p q (z + w - suc (a + y)) s)
 
 -- X Y - Z W, with X and W negative, Z positive, Y less than Z, and W + Y less than 0 and than X + Z
-pub area-positive : (X Y Z W : ℤ) → X <ℤ pos 0 → W <ℤ pos 0 → pos 0 <ℤ Z → Y <ℤ Z → (W +ℤ Y) <ℤ pos 0 → (W +ℤ Y) <ℤ (X +ℤ Z)
-    →
+pub area-positive : (X Y Z W : ℤ) → X <ℤ pos 0 → W <ℤ pos 0 → pos 0 <ℤ Z → Y <ℤ Z → (W +ℤ Y) <ℤ pos 0 → (W +ℤ Y) <ℤ (X +ℤ Z) →
     pos 0 <ℤ (X *ℤ Y -ℤ Z *ℤ W)
 unfolding up dn
 area-positive (pos x) Y Z W hx hw hz hy h k = absurd (omega int)

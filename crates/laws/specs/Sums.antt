@@ -140,8 +140,7 @@ filter-same-range : (p q : ℕ → Bool) (a k : ℕ) → ((u : ℕ) → a ≤ u 
 filter-same-range p q a k h = filter-same q p (range a k) (λ u m. let r = range-in a k m in h u (r .0) (r .1))
 
 -- where one more index passes a test, the count is one more
-pub count-change : (p q : ℕ → Bool) (t a k : ℕ) → ((u : ℕ) → u ≢ t → q u ≡ p u) → p t ≡ false → q t ≡ true → a ≤ t → t < a + k
-    →
+pub count-change : (p q : ℕ → Bool) (t a k : ℕ) → ((u : ℕ) → u ≢ t → q u ≡ p u) → p t ≡ false → q t ≡ true → a ≤ t → t < a + k →
     length (filter q (range a k)) ≡ suc (length (filter p (range a k)))
 unfolding range filter
 count-change p q t a zero h f g l m = absurd (omega arith)

@@ -173,8 +173,7 @@ module _ {n T : ℕ} {org opp label v : ℕ → ℕ} (sph : Sphere n T org opp) 
   fan-last e′ l (more h f) = let r = fan-last e′ l f in (r .0, List·Memᴰ·tail (r .1), r .2)
 
   -- the darts between do not lead to the right neighbour
-  between-onward : (last : ℕ) (gs : List ℕ) → Points T org opp label v 1 last → Between T org opp label v gs → Every (Fanning T org opp label v) gs
-      →
+  between-onward : (last : ℕ) (gs : List ℕ) → Points T org opp label v 1 last → Between T org opp label v gs → Every (Fanning T org opp label v) gs →
       Every (λ x. x ≢ last) gs
   unfolding tri next
   between-onward last [] p b f = tt

@@ -121,7 +121,6 @@ module _ (n : ℕ) (ts : List ℕ) (ws bs scratch : List ℤ) where
       }
 
   -- the whole call
-  pub gives-run : (a : Answer ℕ) (ws′ bs′ : List ℤ) → Given n ts ws bs scratch a ws′ bs′ → (s z : List ℤ) → length s ≡ length scratch
-      →
+  pub gives-run : (a : Answer ℕ) (ws′ bs′ : List ℤ) → Given n ts ws bs scratch a ws′ bs′ → (s z : List ℤ) → length s ≡ length scratch →
       z ≡ map (λ _. pos 0) s → Gives a ws′ bs′ z
   gives-run a ws′ bs′ G s z e f = (G .answer, (G .weights, (G .coordinates, f ∙ cleared scratch s e ∙ G .zeros)))

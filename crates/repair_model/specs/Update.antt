@@ -220,8 +220,7 @@ module _ {n : ℕ} (ts ls : List ℕ) (sph : Sphere n (length ts / 3) (org ts) (
         (up-other : (j : ℕ) → j < n - 2 → up j ≢ other)
         (end0 : outer ts 0 ≢ other → unit (outer ts 0) ≡ 0) (end1 : outer ts 1 ≢ other → unit (outer ts 1) ≡ 0)
         (below0 : outer ts 0 < n) (below1 : outer ts 1 < n) where
-      at-end : (q i : ℕ) → From n (outer ts) name q i → ((j : ℕ) → q ≤ j → j < n - 2 → name j ≡ i → timesMoved f order op k u i ≡ unit i)
-          →
+      at-end : (q i : ℕ) → From n (outer ts) name q i → ((j : ℕ) → q ≤ j → j < n - 2 → name j ≡ i → timesMoved f order op k u i ≡ unit i) →
           i ≢ other →
           timesMoved f order op k u i ≡ unit i
       at-end q i (first e) r d = rw e (outside k u (outer ts 0) l below0 (C .not-first) ∙ sym (end0 (λ c. d (e ∙ c))))

@@ -153,8 +153,7 @@ module _ (s bs : List ℤ) (w : ℕ) (x : ℤ) (M : SubtreePre s bs w x) where
       }
 
   module _ (bs′ : List ℤ) (a end : ℕ) where
-    left-added : field3 w ≡ 1 → a ≡ countStart (length s) + field1 w → end ≡ a + field2 w → More (along (wordAt s) a (end - a) 1) x bs bs′
-        →
+    left-added : field3 w ≡ 1 → a ≡ countStart (length s) + field1 w → end ≡ a + field2 w → More (along (wordAt s) a (end - a) 1) x bs bs′ →
         ((k : ℕ) → Small k bs → Small (k + (end - a)) bs′) → SubtreeAdded s w x bs bs′
     left-added e ea ee more small =
         let f = M .left e in
@@ -169,8 +168,7 @@ module _ (s bs : List ℤ) (w : ℕ) (x : ℤ) (M : SubtreePre s bs w x) where
           small = λ k l. small-later (omega (arith, f .0, M .most, ee)) (small k l);
         }
 
-    right-added : field3 w ≡ 2 → a ≡ markStart (length s) + field1 w → end ≡ a + field2 w → More (along (wordAt s) a (end - a) 0) x bs bs′
-        →
+    right-added : field3 w ≡ 2 → a ≡ markStart (length s) + field1 w → end ≡ a + field2 w → More (along (wordAt s) a (end - a) 0) x bs bs′ →
         ((k : ℕ) → Small k bs → Small (k + (end - a)) bs′) → SubtreeAdded s w x bs bs′
     right-added e ea ee more small =
         let f = M .right e in

@@ -64,8 +64,7 @@ module _ {n T : ℕ} {org opp : ℕ → ℕ} (sph : Sphere n T org opp) (x w b0 
 
   -- A fan, from its last dart back to its first: GAP along its new darts gives its corners and what its two carries come to.
   fan-gaps : {last g : ℕ} {gs : List ℕ} (f : Fan T org opp last g gs) (v r a b : ℕ) → org (next last) ≡ r → org g ≡ v →
-      b0 v ≡ b0 r + b → b1 v ≤ b1 (org (next g)) + a → Feeds T org opp x w b0 b1 a b f → Every (Gap T org opp x w b0 b1) (map (edge T org opp) gs)
-      →
+      b0 v ≡ b0 r + b → b1 v ≤ b1 (org (next g)) + a → Feeds T org opp x w b0 b1 a b f → Every (Gap T org opp x w b0 b1) (map (edge T org opp) gs) →
       Fanned T org opp x w b0 b1 v r a b g gs
   fan-gaps (end {g} h q) v r a b er ev e0 i1 eq gaps =
       let qr : org (prev g) ≡ r = sym (tip-rot sph g h) ∙ ap (λ (d : ℕ). org (next d)) q ∙ er in
@@ -104,8 +103,7 @@ module _ {n T : ℕ} {org opp : ℕ → ℕ} (sph : Sphere n T org opp) (x w b0 
   step-fan e e′ gs h f e1 e0 eq k = fan-gaps sph x w b0 b1 f (org e) (org e′) (x e) (x e′) (tip-opp sph e′ h) refl e0 (omega arith) eq k
 
   step-gaps : {C C′ : List ℕ} (e e′ : ℕ) (gs : List ℕ) → e′ < 3 * T → org e ≡ org (next e′) → Step T org opp e e′ gs C C′ →
-      b1 (org e) ≡ b1 (org (next e)) + x e → b0 (org e) ≡ b0 (org e′) + x e′ → Fanned T org opp x w b0 b1 (org e) (org e′) (x e) (x e′) e gs
-      →
+      b1 (org e) ≡ b1 (org (next e)) + x e → b0 (org e) ≡ b0 (org e′) + x e′ → Fanned T org opp x w b0 b1 (org e) (org e′) (x e) (x e′) e gs →
       Every (Gap T org opp x w b0 b1) C′ → Every (Gap T org opp x w b0 b1) C
   step-gaps e e′ gs h o s e1 e0 F k =
       let o0 = ap b0 o in

@@ -57,9 +57,8 @@ pub record Demand (n : ℕ) (ts : List ℕ) : Type 0 where
   pub count-changed : (ws bs scratch : List ℤ) (count : ℕ) → Counts (repairCall n ts ws bs scratch) count →
       count ≡ length (changed ts ws (repairCall n ts ws bs scratch .weights))
   -- Where the call is not refused, it leaves no inner triangle flat or turned.
-  pub repaired-upright : (ws bs scratch : List ℤ) (count : ℕ) → repairCall n ts ws bs scratch .answer ≡ done count → (t : ℕ) → t ∈ inner ts
-      →
-      bad ts (labels n ts) (repairCall n ts ws bs scratch .coordinates) t ≡ false
+  pub repaired-upright : (ws bs scratch : List ℤ) (count : ℕ) → repairCall n ts ws bs scratch .answer ≡ done count →
+      (t : ℕ) → t ∈ inner ts → bad ts (labels n ts) (repairCall n ts ws bs scratch .coordinates) t ≡ false
 
 -- ---- an accepted mesh always has labels that keep the rules, and so unit maps
 

@@ -41,8 +41,7 @@ plus-append [] xs (y ∷ ys) zs e = absurd (omega arith)
 plus-append (w ∷ ws) xs [] zs e = absurd (omega arith)
 plus-append (w ∷ ws) xs (y ∷ ys) zs e = ap (λ (vs : List ℤ). (w +ℤ y) ∷ vs) (plus-append ws xs ys zs (omega arith))
 
-flatMap-plus : (f g h : ℕ → List ℤ) → ((i : ℕ) → h i ≡ plus (f i) (g i)) → ((i : ℕ) → length (f i) ≡ length (g i)) → (us : List ℕ)
-    →
+flatMap-plus : (f g h : ℕ → List ℤ) → ((i : ℕ) → h i ≡ plus (f i) (g i)) → ((i : ℕ) → length (f i) ≡ length (g i)) → (us : List ℕ) →
     flatMap h us ≡ plus (flatMap f us) (flatMap g us)
 unfolding flatMap plus
 flatMap-plus f g h e l [] = refl
