@@ -3,7 +3,7 @@
 
     python3 tools/draw_test.py
 
-Needs the second program built: cargo build --release --offline, in peer.
+Needs the second program built: cargo build --release --offline, in second.
 """
 
 import pathlib
@@ -15,15 +15,15 @@ import unittest
 import xml.etree.ElementTree as tree
 
 TOP = pathlib.Path(__file__).resolve().parent.parent
-PEER = TOP / "peer/target/release/peer"
+SECOND = TOP / "second/target/release/second"
 SVG = "{http://www.w3.org/2000/svg}"
 TETRA = "pack-map\t4\nt\t0\t2\t1\nt\t0\t3\t2\nt\t3\t1\t2\nt\t0\t1\t3\nw\t5\nw\t3\nw\t-1\n"
 REPAIRED = "pack-map\t4\t9\t1\nv\t0\t9\t0\t0\nv\t1\t0\t9\t0\nv\t2\t0\t0\t9\nv\t3\t3\t5\t1\n"
 AS_GIVEN = "pack-map\t4\t7\t0\nv\t0\t7\t0\t0\nv\t1\t0\t7\t0\nv\t2\t0\t0\t7\nv\t3\t3\t5\t-1\n"
 
 
-def peer(*words, text=""):
-    done = subprocess.run([PEER, *map(str, words)], input=text, capture_output=True, text=True, check=True)
+def second(*words, text=""):
+    done = subprocess.run([SECOND, *map(str, words)], input=text, capture_output=True, text=True, check=True)
     return done.stdout
 
 
@@ -77,13 +77,13 @@ class Drawing(unittest.TestCase):
         for n in 3, 4, 5, 9, 64, 256:
             for kind in "unit", "zero", "signed", "spike", "negative", "wide":
                 with self.subTest(n=n, kind=kind):
-                    job = peer("sphere", n, n, kind)
-                    listing = peer("job", text=job)
+                    job = second("sphere", n, n, kind)
+                    listing = second("job", text=job)
                     if listing.startswith("refused"):
                         self.refused(job, listing, "refused")
                         continue
                     drawn = self.drawn(job, listing)
-                    pairs = zip(weights(job), weights(peer("repaired", text=job)))
+                    pairs = zip(weights(job), weights(second("repaired", text=job)))
                     raised = {t for t, (before, after) in enumerate(pairs, 1) if before != after}
                     self.assertEqual(set(drawn.kinds), set(range(1, 2 * n - 4)))
                     self.assertEqual(drawn.of("raised"), raised)
@@ -93,8 +93,8 @@ class Drawing(unittest.TestCase):
                     self.assertEqual(drawn.vertices, rows)
 
     def test_numbers_that_fit(self):
-        job = peer("sphere", 9, 1, "unit")
-        words = self.drawn(job, peer("job", text=job)).words
+        job = second("sphere", 9, 1, "unit")
+        words = self.drawn(job, second("job", text=job)).words
         shown = {int(word.split(" = ")[-1]) for word in words if re.fullmatch(r"(v[012] = )?\d+", word)}
         self.assertEqual(shown, set(range(9)))
 
@@ -108,7 +108,7 @@ class Drawing(unittest.TestCase):
 
     def test_samples(self):
         job, listing = ((TOP / "samples" / name).read_text() for name in ("shell-64.job", "shell-64.listing"))
-        self.assertEqual(peer("job", text=job), listing)
+        self.assertEqual(second("job", text=job), listing)
         done = self.draw(job, listing)
         self.assertEqual(done.stdout, (TOP / "samples/shell-64.svg").read_text())
 
@@ -141,7 +141,7 @@ class Drawing(unittest.TestCase):
                 self.refused(job, REPAIRED, word)
         for number in 1, 3, 4, 5, 6, 7, 8, 17:
             with self.subTest(number=number):
-                self.refused(peer("damaged", number, 1), REPAIRED, "")
+                self.refused(second("damaged", number, 1), REPAIRED, "")
 
     def test_no_spheres(self):
         # Two bipyramids that share their tips, and a tetrahedron beside a torus.

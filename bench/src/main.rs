@@ -14,12 +14,12 @@
 //! is nothing to tell. A time is the least of several runs, the two programs
 //! taking turns; both must answer and write the same, and none may refuse.
 
-mod proved;
-mod second;
+mod calls_proved;
+mod calls_second;
 
-use peer::spheres::{scramble, weights, Rng, Surface};
-use peer::text::{Job, MOST_BYTES};
-use peer::{Sizes, Work, TEXT_VERTICES, VERTICES};
+use second::spheres::{scramble, weights, Rng, Surface};
+use second::text::{Job, MOST_BYTES};
+use second::{Sizes, Work, TEXT_VERTICES, VERTICES};
 use std::process::ExitCode;
 use std::time::{Duration, Instant};
 
@@ -162,7 +162,7 @@ impl Lent {
         if TEXT_VERTICES.contains(&self.n) {
             self.text = Job::write(self.n, &self.triangles, &self.weights);
         }
-        second::call("forward")(&mut Work::default(), self);
+        calls_second::call("forward")(&mut Work::default(), self);
     }
 }
 
@@ -222,8 +222,8 @@ fn mesh(n: usize, seed: u64, shape: &str) {
 
 fn time(n: usize, seed: u64) -> Result<(), String> {
     for row in ROWS.iter().filter(|row| row.has(n)) {
-        let mut calls = vec![second::call(row.call)];
-        calls.extend(proved::call(row.call));
+        let mut calls = vec![calls_second::call(row.call)];
+        calls.extend(calls_proved::call(row.call));
         let ends = race(&calls, &row.start(n, seed));
         let (answer, second, left) = &ends[0];
         let same = ends.iter().all(|end| end.0 == *answer && end.2 == *left);
@@ -243,8 +243,8 @@ fn time(n: usize, seed: u64) -> Result<(), String> {
 
 fn find(call: &str, program: &str) -> Result<Call, String> {
     match program {
-        "proved" => proved::call(call).ok_or(format!("{call} is not built")),
-        _ => Ok(second::call(call)),
+        "proved" => calls_proved::call(call).ok_or(format!("{call} is not built")),
+        _ => Ok(calls_second::call(call)),
     }
 }
 

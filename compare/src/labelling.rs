@@ -4,8 +4,8 @@
 use crate::calls;
 use crate::meshes::{stale, vertices};
 use crate::tally::Tally;
-use peer::spheres::{self, Rng};
-use peer::{damage, labels, Work};
+use second::spheres::{self, Rng};
+use second::{damage, labels, Work};
 
 fn one(tally: &mut Tally, work: &mut Work, n: usize, triangles: &[u16], cut: usize) {
     let len = (6 * n).saturating_sub(15 + cut);

@@ -4,8 +4,8 @@
 use crate::calls;
 use crate::meshes::{stale, vertices};
 use crate::tally::Tally;
-use peer::spheres::{self, Rng};
-use peer::{damage, maps, Answer, Sizes, Work};
+use second::spheres::{self, Rng};
+use second::{damage, maps, Answer, Sizes, Work};
 
 /// What two calls left in the slices they write.
 struct Left {
@@ -57,7 +57,7 @@ fn back(tally: &mut Tally, work: &mut Work, n: usize, mesh: &[u16], coordinates:
 
 /// Coordinates with the outer vertices at their corners and the others anywhere.
 fn anywhere(rng: &mut Rng, n: usize, outer: [u16; 3]) -> Vec<i64> {
-    let reach = [5, 1000, peer::LIMIT / n as i64 / 8, peer::LIMIT / 3][rng.below(4)].max(1);
+    let reach = [5, 1000, second::LIMIT / n as i64 / 8, second::LIMIT / 3][rng.below(4)].max(1);
     let total = rng.within(-reach, reach);
     let mut b = vec![0; 3 * n];
     for at in b.chunks_exact_mut(3) {
@@ -134,7 +134,7 @@ pub fn run(count: usize, seed: u64) -> [Tally; 2] {
 
 /// The coordinates, or others where forward was refused and left them as lent.
 fn anywhere_or(b: &[i64], rng: &mut Rng, n: usize, outer: [u16; 3]) -> Vec<i64> {
-    if b.iter().all(|x| x.abs() <= peer::LIMIT) {
+    if b.iter().all(|x| x.abs() <= second::LIMIT) {
         b.to_vec()
     } else {
         anywhere(rng, n, outer)

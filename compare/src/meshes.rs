@@ -3,8 +3,8 @@
 
 use crate::calls;
 use crate::tally::Tally;
-use peer::spheres::{self, Rng};
-use peer::{damage, mesh, Sizes, Work};
+use second::spheres::{self, Rng};
+use second::{damage, mesh, Sizes, Work};
 
 /// A number of vertices: small ones often, large ones now and then.
 pub fn vertices(rng: &mut Rng) -> usize {

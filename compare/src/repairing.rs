@@ -5,8 +5,8 @@
 use crate::calls;
 use crate::meshes::{stale, vertices};
 use crate::tally::Tally;
-use peer::spheres::{self, Rng};
-use peer::{damage, repair, Extra, Work};
+use second::spheres::{self, Rng};
+use second::{damage, repair, Extra, Work};
 
 fn one(tally: &mut Tally, work: &mut Work, n: usize, mesh: &[u16], weights: &[i64]) {
     let (mut ours, mut theirs) = (weights.to_vec(), weights.to_vec());

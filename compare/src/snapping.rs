@@ -4,8 +4,8 @@
 
 use crate::calls;
 use crate::tally::Tally;
-use peer::spheres::Rng;
-use peer::{naive, snap, Extra};
+use second::spheres::Rng;
+use second::{naive, snap, Extra};
 
 /// Patterns without their sign: zero, subnormals, powers of two with their
 /// neighbours, what lies about 2, infinity and NaNs.

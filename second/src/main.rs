@@ -1,20 +1,20 @@
-//! The program `peer`: own tests, jobs, random and damaged jobs, comparison
+//! The program `second`: own tests, jobs, random and damaged jobs, comparison
 //! with another program, and timings.
 
-use peer::spheres::{sphere, weights, Rng, KINDS};
-use peer::text::{self, Job};
-use peer::{damage, labels, maps, mesh, repair, trials, Sizes, Work};
+use second::spheres::{sphere, weights, Rng, KINDS};
+use second::text::{self, Job};
+use second::{damage, labels, maps, mesh, repair, trials, Sizes, Work};
 use std::io::{Read, Write};
 use std::process::{Command, ExitCode, Stdio};
 use std::time::Instant;
 
-const USAGE: &str = "peer test [ROUNDS] [SEED]
-peer job
-peer repaired
-peer sphere N SEED [KIND]
-peer damaged NUMBER SEED
-peer compare COMMAND COUNT SEED
-peer time [N] [SEED]";
+const USAGE: &str = "second test [ROUNDS] [SEED]
+second job
+second repaired
+second sphere N SEED [KIND]
+second damaged NUMBER SEED
+second compare COMMAND COUNT SEED
+second time [N] [SEED]";
 
 fn main() -> ExitCode {
     let arguments: Vec<String> = std::env::args().skip(1).collect();
@@ -82,7 +82,7 @@ fn repaired() -> Option<bool> {
 }
 
 fn random_job(n: &str, seed: &str, kind: Option<&&str>) -> Option<bool> {
-    let n = n.parse().ok().filter(|n| peer::TEXT_VERTICES.contains(n))?;
+    let n = n.parse().ok().filter(|n| second::TEXT_VERTICES.contains(n))?;
     let mut rng = Rng(seed.parse().ok()?);
     let kind = match kind {
         Some(kind) => kind,

@@ -4,6 +4,7 @@
 //! reusable buffers of a call. Each call lives in the module of its subject
 //! and works on lent slices; a `Work` may be kept from call to call.
 
+pub mod c;
 pub mod damage;
 pub mod labels;
 pub mod maps;

@@ -1,6 +1,6 @@
 //! The second program's host call for C, under a name of its own.
 
-use peer::{text, Work};
+use crate::{text, Work};
 use std::cell::RefCell;
 use std::slice::{from_raw_parts, from_raw_parts_mut};
 

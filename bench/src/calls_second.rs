@@ -1,7 +1,7 @@
 //! The second program's calls by name.
 
 use crate::{answer, Call};
-use peer::{labels, maps, mesh, repair, snap, text, Answer};
+use second::{labels, maps, mesh, repair, snap, text, Answer};
 
 /// 0, or what stands for the refusal.
 fn done(call: Answer<()>) -> u64 {
