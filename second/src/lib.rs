@@ -12,6 +12,7 @@ pub mod mesh;
 pub mod minset;
 pub mod naive;
 pub mod repair;
+pub mod shells;
 pub mod snap;
 pub mod spheres;
 pub mod text;

@@ -1,20 +1,18 @@
-//! The program `second`: own tests, jobs, random and damaged jobs, comparison
-//! with another program, and timings.
+//! The program `second`: own tests, jobs, random and damaged jobs, and
+//! comparison with another program.
 
 use second::spheres::{sphere, weights, Rng, KINDS};
 use second::text::{self, Job};
-use second::{damage, labels, maps, mesh, repair, trials, Sizes, Work};
+use second::{damage, trials, Work};
 use std::io::{Read, Write};
 use std::process::{Command, ExitCode, Stdio};
-use std::time::Instant;
 
 const USAGE: &str = "second test [ROUNDS] [SEED]
 second job
 second repaired
 second sphere N SEED [KIND]
 second damaged NUMBER SEED
-second compare COMMAND COUNT SEED
-second time [N] [SEED]";
+second compare COMMAND COUNT SEED";
 
 fn main() -> ExitCode {
     let arguments: Vec<String> = std::env::args().skip(1).collect();
@@ -26,7 +24,6 @@ fn main() -> ExitCode {
         ["sphere", n, seed, ref kind @ ..] => random_job(n, seed, kind.first()),
         ["damaged", number, seed] => damaged_job(number, seed),
         ["compare", command, count, seed] => compare(command, count, seed),
-        ["time", ref rest @ ..] => time(rest),
         _ => None,
     };
     match done {
@@ -82,7 +79,10 @@ fn repaired() -> Option<bool> {
 }
 
 fn random_job(n: &str, seed: &str, kind: Option<&&str>) -> Option<bool> {
-    let n = n.parse().ok().filter(|n| second::TEXT_VERTICES.contains(n))?;
+    let n = n
+        .parse()
+        .ok()
+        .filter(|n| second::TEXT_VERTICES.contains(n))?;
     let mut rng = Rng(seed.parse().ok()?);
     let kind = match kind {
         Some(kind) => kind,
@@ -150,54 +150,4 @@ fn compare(command: &str, count: &str, seed: &str) -> Option<bool> {
     }
     println!("{} passed, {differing} failed", count - differing);
     Some(differing == 0)
-}
-
-/// Least time of a call over several runs, in microseconds.
-fn least(mut call: impl FnMut()) -> f64 {
-    let mut best = f64::MAX;
-    for _ in 0..30 {
-        let start = Instant::now();
-        call();
-        best = best.min(start.elapsed().as_secs_f64());
-    }
-    best * 1e6
-}
-
-/// Times of the calls on five random spheres, with weights of three kinds.
-fn time(words: &[&str]) -> Option<bool> {
-    let n = number(words, 0, 4096)? as usize;
-    let mut rng = Rng(number(words, 1, 1)?);
-    let sizes = Sizes::of(n).ok()?;
-    let mut work = Work::default();
-    let mut scratch = vec![0; sizes.scratch];
-    let mut corners = vec![0; sizes.labels];
-    let mut b = vec![0; sizes.coordinates];
-    let mut w = vec![0; sizes.weights];
-    println!("n = {n}, microseconds, least of 30 runs");
-    for i in 1..=5 {
-        let t = sphere(&mut rng, n);
-        let ones = vec![1; sizes.weights];
-        let times = [
-            least(|| _ = mesh::check(&mut work, n, &t, &mut scratch)),
-            least(|| _ = labels::labels(&mut work, n, &t, &mut corners, &mut scratch)),
-            least(|| _ = maps::forward(&mut work, n, &t, &ones, &mut b, &mut scratch)),
-            least(|| _ = maps::backward(&mut work, n, &t, &b, &mut w, &mut scratch)),
-        ];
-        let names = ["check", "labels", "forward", "backward"];
-        let list = names
-            .iter()
-            .zip(times)
-            .map(|(name, t)| format!("{name} {t:.0}"));
-        println!("sphere {i}: {}", list.collect::<Vec<_>>().join(", "));
-        for kind in ["unit", "spike", "signed", "zero"] {
-            let lent = weights(&mut rng, kind, sizes.weights)?;
-            let mut answer = Ok(0);
-            let time = least(|| {
-                w.copy_from_slice(&lent);
-                answer = repair::repair(&mut work, n, &t, &mut w, &mut b, &mut scratch);
-            });
-            println!("  repair, {kind} weights: {time:.0}, {answer:?}");
-        }
-    }
-    Some(true)
 }

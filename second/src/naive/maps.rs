@@ -1,0 +1,165 @@
+//! The slow maps: forward by the sets of sides on walks and paths, backward by
+//! the differences along coloured sides.
+
+use super::{by_label, sides, triples, Side, Triple};
+use std::collections::{BTreeMap, BTreeSet};
+
+/// An inner side by its ends without direction, to colour, tail and head.
+type Colours = BTreeMap<Side, (u8, usize, usize)>;
+
+fn undirected((a, b): Side) -> Side {
+    (a.min(b), a.max(b))
+}
+
+/// A labelled mesh with colours, walks and paths.
+pub struct Labelled {
+    n: usize,
+    /// v0, v1, v2.
+    outer: Triple,
+    /// For each inner triangle, its corners labelled 0, 1, 2.
+    pub corners: Vec<Triple>,
+    colours: Colours,
+    /// in_b[c][i]: the inner triangles whose weights b0 (c = 0) or b1 of
+    /// vertex i sums.
+    in_b: [Vec<Vec<usize>>; 2],
+}
+
+impl Labelled {
+    pub fn new(n: usize, triangles: &[u16], labels: &[u8]) -> Labelled {
+        let all = triples(triangles);
+        let [v0, v2, v1] = all[0];
+        let outer = [v0, v1, v2];
+        let corners = by_label(triangles, labels);
+        let colours = colours(&all, labels);
+        let walks = walks(&all, &corners);
+        let met = |c: u8| -> Vec<Vec<usize>> {
+            let meeting = |i: usize| {
+                let path = path(&colours, outer, c, i);
+                let meets = |t: &usize| !walks[*t].is_disjoint(&path);
+                (0..walks.len()).filter(meets).collect()
+            };
+            (0..n).map(meeting).collect()
+        };
+        let in_b = [met(1), met(0)];
+        Labelled {
+            n,
+            outer,
+            corners,
+            colours,
+            in_b,
+        }
+    }
+
+    /// Coordinates of the weights.
+    pub fn forward(&self, weights: &[i64]) -> Vec<i64> {
+        let total: i128 = weights.iter().map(|&w| w as i128).sum();
+        let mut b = vec![];
+        for i in 0..self.n {
+            let sum = |set: &[usize]| set.iter().map(|&t| weights[t] as i128).sum::<i128>();
+            let (b0, b1) = (sum(&self.in_b[0][i]), sum(&self.in_b[1][i]));
+            b.extend([b0, b1, total - b0 - b1].map(|x| x as i64));
+        }
+        b
+    }
+
+    /// Weights of the coordinates, not yet held against any limit. Either
+    /// `choice`, 0 or 1, of the colours of the rim sides gives the same.
+    pub fn backward(&self, b: &[i64], choice: usize) -> Vec<i64> {
+        let s = |side| self.s(side, b, choice);
+        let weight = |&[p, q, r]: &Triple| s((p, q)) - s((q, r)) - s((r, p));
+        self.corners.iter().map(|t| weight(t) as i64).collect()
+    }
+
+    /// s of a side.
+    fn s(&self, side: Side, b: &[i64], choice: usize) -> i128 {
+        let at = |v: usize, c: usize| b[3 * v + c] as i128;
+        let (colour, i, j) = match self.colours.get(&undirected(side)) {
+            Some(&found) => found,
+            None => self.rim_side(side, choice),
+        };
+        match colour {
+            0 => at(i, 1) - at(j, 1),
+            1 => at(i, 0) - at(j, 0),
+            _ => 0,
+        }
+    }
+
+    /// A rim side towards one of its ends, with the colour of that end.
+    fn rim_side(&self, side: Side, choice: usize) -> (u8, usize, usize) {
+        let (a, b) = undirected(side);
+        let (tail, head) = if choice == 0 { (a, b) } else { (b, a) };
+        let colour = self.outer.iter().position(|&v| v == head);
+        (colour.expect("an end on the rim") as u8, tail, head)
+    }
+}
+
+/// Colours and directions of the inner sides: a side points to the end whose
+/// two corners carry the same label.
+fn colours(all: &[Triple], labels: &[u8]) -> Colours {
+    // Labels at the two ends of each side, from its inner triangles.
+    let mut ends: BTreeMap<Side, Vec<(usize, u8)>> = BTreeMap::new();
+    for (t, at) in all.iter().skip(1).zip(labels.chunks(3)) {
+        for i in 0..3 {
+            let j = (i + 1) % 3;
+            let both = [(t[i], at[i]), (t[j], at[j])];
+            ends.entry(undirected((t[i], t[j])))
+                .or_default()
+                .extend(both);
+        }
+    }
+    let mut colours = Colours::new();
+    for (&side, list) in ends.iter().filter(|(_, list)| list.len() == 4) {
+        let (a, b) = side;
+        for (head, tail) in [(a, b), (b, a)] {
+            let at_head = list.iter().filter(|(v, _)| *v == head);
+            let at_head: BTreeSet<u8> = at_head.map(|&(_, c)| c).collect();
+            if let [colour] = at_head.into_iter().collect::<Vec<_>>()[..] {
+                let twice = colours.insert(side, (colour, tail, head));
+                assert!(twice.is_none(), "a side points one way");
+            }
+        }
+    }
+    colours
+}
+
+/// The sides that the colour-2 walk of each inner triangle crosses.
+fn walks(all: &[Triple], corners: &[Triple]) -> Vec<BTreeSet<Side>> {
+    // The triangles on both sides of a side.
+    let mut beside: BTreeMap<Side, Vec<usize>> = BTreeMap::new();
+    for (place, t) in all.iter().enumerate() {
+        for side in sides(t) {
+            beside.entry(undirected(side)).or_default().push(place);
+        }
+    }
+    let walk = |start: usize| {
+        let mut crossed = BTreeSet::new();
+        let mut at = start;
+        while at != 0 {
+            let [p, q, _] = corners[at - 1];
+            let side = undirected((p, q));
+            assert!(crossed.insert(side), "a walk ends");
+            let other = beside[&side].iter().find(|&&t| t != at);
+            at = *other.expect("a triangle beyond");
+        }
+        crossed
+    };
+    (1..all.len()).map(walk).collect()
+}
+
+/// The sides on the path of colour c from a vertex to v_c.
+fn path(colours: &Colours, outer: Triple, c: u8, from: usize) -> BTreeSet<Side> {
+    let root = outer[c as usize];
+    let mut path = BTreeSet::new();
+    let mut v = from;
+    while v != root {
+        let to = if outer.contains(&v) {
+            root
+        } else {
+            let leaving = colours.values().find(|s| s.0 == c && s.1 == v);
+            leaving.expect("each colour leaves an inner vertex").2
+        };
+        assert!(path.insert(undirected((v, to))), "a path ends");
+        v = to;
+    }
+    path
+}

@@ -1,0 +1,31 @@
+//! Slow references, one file for each call. Each is spelled out from document
+//! 01 with sets and lists, and shares no code with the fast modules. Here are
+//! the types that they share.
+
+mod labels;
+mod maps;
+mod mesh;
+mod repair;
+mod snap;
+mod text;
+
+pub use labels::{by_label, labels};
+pub use maps::Labelled;
+pub use mesh::refusal;
+pub use repair::{areas, next_raise, repair_by, too_heavy, Raise};
+pub use snap::snapped;
+pub use text::{packmap, read, Verdict};
+
+/// The corners of a triangle, in order.
+pub type Triple = [usize; 3];
+/// The ends of a side.
+type Side = (usize, usize);
+
+fn triples(triangles: &[u16]) -> Vec<Triple> {
+    let wide: Vec<usize> = triangles.iter().map(|&v| v.into()).collect();
+    wide.chunks(3).map(|t| [t[0], t[1], t[2]]).collect()
+}
+
+fn sides(t: &Triple) -> [Side; 3] {
+    [(t[0], t[1]), (t[1], t[2]), (t[2], t[0])]
+}

@@ -1,0 +1,119 @@
+//! Tests of the mesh check: rows 1 to 8, every mesh on 3 vertices, changed
+//! spheres and damaged meshes. What is wanted comes from document 01, from the
+//! slow check, or from the row that a mesh was damaged for. The other calls on a
+//! mesh have to refuse a damaged one alike.
+
+use super::{refused, sizes, Trials, WrongLength, FILL, WRONG_N};
+use crate::shells::{ROWS, TETRA};
+use crate::spheres::sphere;
+use crate::{damage, mesh, naive, Answer, Work};
+
+impl Trials {
+    pub(super) fn mesh(&mut self, n: usize, triangles: &[u16]) -> Answer<()> {
+        let mut scratch = vec![FILL; sizes(n).scratch];
+        let answer = mesh::check(&mut self.work, n, triangles, &mut scratch);
+        self.settle(&answer, &scratch);
+        answer
+    }
+
+    /// Every call on a mesh refuses this one so, whatever weights or
+    /// coordinates come with it.
+    fn mesh_refused(&mut self, n: usize, t: &[u16], number: u8) {
+        let heavy = vec![i64::MIN; 2 * n - 5];
+        let got = self.mesh(n, t);
+        self.equal(got, refused(number), "mesh check");
+        let got = self.labels(n, t);
+        self.equal(got, refused(number), "labels, by the mesh check");
+        let got = self.forward(n, t, &heavy);
+        self.equal(got, refused(number), "forward, by the mesh check");
+        let got = self.backward(n, t, &vec![i64::MAX; 3 * n]);
+        self.equal(got, refused(number), "backward, by the mesh check");
+        let (got, ..) = self.repair(n, t, &heavy);
+        self.equal(got, refused(number), "repair, by the mesh check");
+    }
+}
+
+/// Row 1, and the meshes of rows 3 to 8.
+pub(super) fn table(trials: &mut Trials) {
+    for n in WRONG_N {
+        let got = trials.mesh(n, &TETRA);
+        trials.equal(got, refused(1), "1, mesh check");
+    }
+    for (number, n, t) in ROWS {
+        trials.mesh_refused(n, t, number);
+    }
+}
+
+/// Row 2 for each slice, with a broken mesh besides.
+pub(super) fn lengths(trials: &mut Trials) {
+    for wrong in WrongLength::all(2) {
+        let (n, s) = (wrong.n, sizes(wrong.n));
+        let t = vec![9; wrong.of(0, s.triangles)];
+        let mut scratch = vec![FILL; wrong.of(1, s.scratch)];
+        let answer = mesh::check(&mut Work::default(), n, &t, &mut scratch);
+        trials.equal(answer, refused(2), "2, mesh check");
+        trials.settle(&answer, &scratch);
+    }
+}
+
+/// The mesh check against the slow one.
+fn by_slow_check(trials: &mut Trials, n: usize, t: &[u16], what: &str) {
+    let wanted = naive::refusal(n, t).map_or(Ok(()), refused);
+    let got = trials.mesh(n, t);
+    trials.equal(got, wanted, what);
+}
+
+/// Every mesh on 3 vertices with vertex numbers 0 to 3.
+pub(super) fn on_three_vertices(trials: &mut Trials) {
+    for code in 0..1 << 12 {
+        let t: Vec<u16> = (0..6).map(|i| code >> (2 * i) & 3).collect();
+        by_slow_check(trials, 3, &t, "mesh on 3 vertices");
+    }
+}
+
+/// Spheres with a few numbers changed, and any triples.
+pub(super) fn changed(trials: &mut Trials) {
+    for _ in 0..20 * trials.rounds {
+        let rng = &mut trials.rng;
+        let n = 3 + rng.below(6);
+        let mut t = sphere(rng, n);
+        for _ in 0..rng.below(4) {
+            let at = rng.below(t.len());
+            match rng.below(4) {
+                0 => t[at] = rng.below(n) as u16,
+                1 => t[at] = t[rng.below(3 * n - 6)],
+                2 => t.swap(at, rng.below(3 * n - 6)),
+                _ => {
+                    let (a, b) = (at / 3 * 3, rng.below(2 * n - 4) * 3);
+                    for i in 0..3 {
+                        t.swap(a + i, b + i);
+                    }
+                }
+            }
+        }
+        if rng.chance(10) {
+            t.fill_with(|| rng.below(n + rng.0 as usize % 2) as u16);
+        }
+        by_slow_check(trials, n, &t, "mesh, any triples");
+    }
+}
+
+/// Spheres, and meshes damaged for each of rows 3 to 8.
+pub(super) fn damaged(trials: &mut Trials) {
+    for round in 0..trials.rounds {
+        let n = trials.size_in(round, 4096);
+        let t = sphere(&mut trials.rng, n);
+        let got = trials.mesh(n, &t);
+        trials.equal(got, Ok(()), "a sphere");
+        for number in 3..=8 {
+            let bad = damage::mesh(&mut trials.rng, number, n);
+            if bad.n <= 60 {
+                let slow = naive::refusal(bad.n, &bad.triangles);
+                trials.equal(slow, Some(number), "damaged mesh, slow check");
+            }
+            if bad.n <= 4096 {
+                trials.mesh_refused(bad.n, &bad.triangles, number);
+            }
+        }
+    }
+}
