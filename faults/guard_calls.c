@@ -8,7 +8,7 @@
 #include <float.h>
 #include <math.h>
 
-#include "hashcliff.h"
+#include "packmap.h"
 #include "shells.h"
 #include "watched.h"
 
@@ -65,43 +65,43 @@ struct trial {
 #define PART(i) (void *)lent[i].at, len[i]
 
 static uint64_t make_check(const struct trial *t, const struct lent *lent, const size_t *len) {
-    return mesh_check_c(t->n, PART(0), PART(1));
+    return packmap_mesh_check(t->n, PART(0), PART(1));
 }
 
 static uint64_t make_labels(const struct trial *t, const struct lent *lent, const size_t *len) {
-    return labels_c(t->n, PART(0), PART(1), PART(2));
+    return packmap_labels(t->n, PART(0), PART(1), PART(2));
 }
 
 static uint64_t make_forward(const struct trial *t, const struct lent *lent, const size_t *len) {
-    return forward_c(t->n, PART(0), PART(1), PART(2), PART(3));
+    return packmap_forward(t->n, PART(0), PART(1), PART(2), PART(3));
 }
 
 static uint64_t make_backward(const struct trial *t, const struct lent *lent, const size_t *len) {
-    return backward_c(t->n, PART(0), PART(1), PART(2), PART(3));
+    return packmap_backward(t->n, PART(0), PART(1), PART(2), PART(3));
 }
 
 static uint64_t make_repair(const struct trial *t, const struct lent *lent, const size_t *len) {
-    return repair_c(t->n, PART(0), PART(1), PART(2), PART(3), (void *)lent[4].at);
+    return packmap_repair(t->n, PART(0), PART(1), PART(2), PART(3), (void *)lent[4].at);
 }
 
 static uint64_t make_snap(const struct trial *t, const struct lent *lent, const size_t *len) {
-    return snap_points_c(t->n, PART(0), t->scale, PART(1), (void *)lent[2].at);
+    return packmap_snap_points(t->n, PART(0), t->scale, PART(1), (void *)lent[2].at);
 }
 
-static const struct call CHECK = {"mesh_check_c", make_check, 2, {{TRIANGLES, READ}, {SCRATCH, WRITTEN}}};
+static const struct call CHECK = {"packmap_mesh_check", make_check, 2, {{TRIANGLES, READ}, {SCRATCH, WRITTEN}}};
 static const struct call LABEL = {
-    "labels_c", make_labels, 3, {{TRIANGLES, READ}, {LABELS, WRITTEN}, {SCRATCH, WRITTEN}}};
+    "packmap_labels", make_labels, 3, {{TRIANGLES, READ}, {LABELS, WRITTEN}, {SCRATCH, WRITTEN}}};
 static const struct call FORWARD = {
-    "forward_c", make_forward, 4, {{TRIANGLES, READ}, {WEIGHTS, READ}, {COORDINATES, WRITTEN}, {SCRATCH, WRITTEN}}};
+    "packmap_forward", make_forward, 4, {{TRIANGLES, READ}, {WEIGHTS, READ}, {COORDINATES, WRITTEN}, {SCRATCH, WRITTEN}}};
 static const struct call BACKWARD = {
-    "backward_c", make_backward, 4, {{TRIANGLES, READ}, {COORDINATES, READ}, {WEIGHTS, WRITTEN}, {SCRATCH, WRITTEN}}};
+    "packmap_backward", make_backward, 4, {{TRIANGLES, READ}, {COORDINATES, READ}, {WEIGHTS, WRITTEN}, {SCRATCH, WRITTEN}}};
 static const struct call REPAIR = {
-    "repair_c",
+    "packmap_repair",
     make_repair,
     5,
     {{TRIANGLES, READ}, {WEIGHTS, BOTH}, {COORDINATES, WRITTEN}, {SCRATCH, WRITTEN}, {ONE, WRITTEN}}};
 static const struct call SNAP = {
-    "snap_points_c", make_snap, 3, {{SHARES, READ}, {COORDINATES, WRITTEN}, {ONE, WRITTEN}}};
+    "packmap_snap_points", make_snap, 3, {{SHARES, READ}, {COORDINATES, WRITTEN}, {ONE, WRITTEN}}};
 
 /* --- One call, and all calls of a trial --- */
 

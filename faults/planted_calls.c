@@ -1,7 +1,7 @@
 /* Faults planted in the six calls. */
 #include "planted.h"
 
-#include "hashcliff.h"
+#include "packmap.h"
 
 /* The parameters of a call, and its arguments. */
 #define MESH size_t n, const uint16_t *triangles, size_t triangles_len
@@ -9,15 +9,15 @@
 #define GIVEN_MESH n, triangles, triangles_len
 #define GIVEN_SCRATCH scratch, scratch_len
 
-uint64_t __real_mesh_check_c(MESH, SCRATCH);
-uint64_t __wrap_mesh_check_c(MESH, SCRATCH) {
+uint64_t __real_packmap_mesh_check(MESH, SCRATCH);
+uint64_t __wrap_packmap_mesh_check(MESH, SCRATCH) {
     if (planted("reads past the end"))
         (void)*(volatile const uint16_t *)(triangles + triangles_len);
     if (planted("reads before the start"))
         (void)*(volatile const uint16_t *)(triangles - 1);
     if (planted("leaks") && !malloc(1))
         abort();
-    uint64_t number = __real_mesh_check_c(GIVEN_MESH, GIVEN_SCRATCH);
+    uint64_t number = __real_packmap_mesh_check(GIVEN_MESH, GIVEN_SCRATCH);
     if (planted("another number") && number == 6)
         return 5;
     if (planted("scratch left dirty") && number == 7)
@@ -27,9 +27,9 @@ uint64_t __wrap_mesh_check_c(MESH, SCRATCH) {
     return number;
 }
 
-uint64_t __real_labels_c(MESH, uint8_t *labels, size_t labels_len, SCRATCH);
-uint64_t __wrap_labels_c(MESH, uint8_t *labels, size_t labels_len, SCRATCH) {
-    uint64_t number = __real_labels_c(GIVEN_MESH, labels, labels_len, GIVEN_SCRATCH);
+uint64_t __real_packmap_labels(MESH, uint8_t *labels, size_t labels_len, SCRATCH);
+uint64_t __wrap_packmap_labels(MESH, uint8_t *labels, size_t labels_len, SCRATCH) {
+    uint64_t number = __real_packmap_labels(GIVEN_MESH, labels, labels_len, GIVEN_SCRATCH);
     if (planted("writes past the end") && number == 0)
         labels[labels_len] = 0;
     if (planted("writes before the start") && number == 0)
@@ -37,41 +37,41 @@ uint64_t __wrap_labels_c(MESH, uint8_t *labels, size_t labels_len, SCRATCH) {
     return number;
 }
 
-uint64_t __real_forward_c(MESH, const int64_t *weights, size_t weights_len, int64_t *b, size_t b_len, SCRATCH);
-uint64_t __wrap_forward_c(MESH, const int64_t *weights, size_t weights_len, int64_t *b, size_t b_len, SCRATCH) {
+uint64_t __real_packmap_forward(MESH, const int64_t *weights, size_t weights_len, int64_t *b, size_t b_len, SCRATCH);
+uint64_t __wrap_packmap_forward(MESH, const int64_t *weights, size_t weights_len, int64_t *b, size_t b_len, SCRATCH) {
     if (planted("too long is let through") && b_len == 3 * n + 1)
         b_len--;
     if (planted("looks at what it only writes") && b_len > 0 && b[0] == 42)
         return 0;
-    uint64_t number = __real_forward_c(GIVEN_MESH, weights, weights_len, b, b_len, GIVEN_SCRATCH);
+    uint64_t number = __real_packmap_forward(GIVEN_MESH, weights, weights_len, b, b_len, GIVEN_SCRATCH);
     if (planted("writes although refused") && number == 9)
         b[0] = 0;
     return number;
 }
 
-uint64_t __real_backward_c(MESH, const int64_t *b, size_t b_len, int64_t *weights, size_t weights_len, SCRATCH);
-uint64_t __wrap_backward_c(MESH, const int64_t *b, size_t b_len, int64_t *weights, size_t weights_len, SCRATCH) {
-    uint64_t number = __real_backward_c(GIVEN_MESH, b, b_len, weights, weights_len, GIVEN_SCRATCH);
+uint64_t __real_packmap_backward(MESH, const int64_t *b, size_t b_len, int64_t *weights, size_t weights_len, SCRATCH);
+uint64_t __wrap_packmap_backward(MESH, const int64_t *b, size_t b_len, int64_t *weights, size_t weights_len, SCRATCH) {
+    uint64_t number = __real_packmap_backward(GIVEN_MESH, b, b_len, weights, weights_len, GIVEN_SCRATCH);
     if (planted("changes what it only reads") && number == 0)
         ((int64_t *)b)[b_len - 1]++;
     return number;
 }
 
-uint64_t __real_repair_c(MESH, int64_t *weights, size_t weights_len, int64_t *b, size_t b_len, SCRATCH,
-                         uint64_t *count);
-uint64_t __wrap_repair_c(MESH, int64_t *weights, size_t weights_len, int64_t *b, size_t b_len, SCRATCH,
-                         uint64_t *count) {
-    uint64_t number = __real_repair_c(GIVEN_MESH, weights, weights_len, b, b_len, GIVEN_SCRATCH, count);
+uint64_t __real_packmap_repair(MESH, int64_t *weights, size_t weights_len, int64_t *b, size_t b_len, SCRATCH,
+                               uint64_t *count);
+uint64_t __wrap_packmap_repair(MESH, int64_t *weights, size_t weights_len, int64_t *b, size_t b_len, SCRATCH,
+                               uint64_t *count) {
+    uint64_t number = __real_packmap_repair(GIVEN_MESH, weights, weights_len, b, b_len, GIVEN_SCRATCH, count);
     if (planted("counts the raise that 13 refuses") && number == 13)
         ++*count;
     return number;
 }
 
-uint64_t __real_snap_points_c(size_t n, const double *shares, size_t shares_len, uint32_t scale, int64_t *b,
-                              size_t b_len, double *outside);
-uint64_t __wrap_snap_points_c(size_t n, const double *shares, size_t shares_len, uint32_t scale, int64_t *b,
-                              size_t b_len, double *outside) {
-    uint64_t number = __real_snap_points_c(n, shares, shares_len, scale, b, b_len, outside);
+uint64_t __real_packmap_snap_points(size_t n, const double *shares, size_t shares_len, uint32_t scale, int64_t *b,
+                                    size_t b_len, double *outside);
+uint64_t __wrap_packmap_snap_points(size_t n, const double *shares, size_t shares_len, uint32_t scale, int64_t *b,
+                                    size_t b_len, double *outside) {
+    uint64_t number = __real_packmap_snap_points(n, shares, shares_len, scale, b, b_len, outside);
     if (planted("tells a share with 15") && number == 15)
         *outside = shares[0];
     return number;

@@ -18,6 +18,9 @@ uint64_t __real_packmap_job(const uint8_t *text, size_t text_len, uint8_t *listi
 uint64_t __wrap_packmap_job(const uint8_t *text, size_t text_len, uint8_t *listing, size_t listing_len) {
     if (planted("reads past the text"))
         (void)*(volatile const uint8_t *)(text + text_len);
+    static uint64_t calls;
+    if (planted("keeps a count from call to call"))
+        calls++;
     uint64_t answer = __real_packmap_job(text, text_len, listing, listing_len);
     bool listed = answer < 65536;
     if (planted("wants a byte too much") && listed && answer == listing_len)

@@ -9,7 +9,6 @@
 #include <stdio.h>
 #include <stdlib.h>
 
-#include "hashcliff.h"
 #include "packmap.h"
 #include "shells.h"
 
@@ -81,21 +80,21 @@ static uint64_t make(const struct step *s) {
     const size_t n = s->n, t = 3 * (2 * n - 4), w = 2 * n - 5, b = 3 * n, left = 24 * n - s->cut;
     switch (s->call) {
     case CHECK:
-        return mesh_check_c(n, s->triangles, t, scratch, left);
+        return packmap_mesh_check(n, s->triangles, t, scratch, left);
     case LABELS:
-        return labels_c(n, s->triangles, t, labels, 3 * w, scratch, left);
+        return packmap_labels(n, s->triangles, t, labels, 3 * w, scratch, left);
     case FORWARD:
         memset(weights, 0, sizeof weights);
         memcpy(weights, s->numbers, sizeof s->numbers);
-        return forward_c(n, s->triangles, t, weights, w, coordinates, b, scratch, left);
+        return packmap_forward(n, s->triangles, t, weights, w, coordinates, b, scratch, left);
     case BACKWARD:
-        return backward_c(n, s->triangles, t, s->numbers, b, weights, w, scratch, left);
+        return packmap_backward(n, s->triangles, t, s->numbers, b, weights, w, scratch, left);
     case REPAIR:
         memset(weights, 0, sizeof weights);
         memcpy(weights, s->numbers, sizeof s->numbers);
-        return repair_c(n, s->triangles, t, weights, w, coordinates, b, scratch, left, &count);
+        return packmap_repair(n, s->triangles, t, weights, w, coordinates, b, scratch, left, &count);
     case SNAP:
-        return snap_points_c(n, s->shares, 2 * n, s->scale, coordinates, b - s->cut, &outside);
+        return packmap_snap_points(n, s->shares, 2 * n, s->scale, coordinates, b - s->cut, &outside);
     default:
         return packmap_job((const uint8_t *)s->text, strlen(s->text), listing, sizeof listing - s->cut);
     }

@@ -1,16 +1,18 @@
 #!/usr/bin/env python3
 """Holds the documents against the tree.
 
-Every name in backticks that looks like a crate, a file of a crate, a definition or a must-fail edit has to exist, a name that follows a crate or a file
-has to stand in a crate that its row or paragraph names, and docs/READING.md has to cite every must-fail edit. Run it in the repository; it exits 1 where
-something is missing.
+Every name in backticks that looks like a path, a crate, a file of a crate, a definition or a must-fail edit has to exist, a name that follows a crate or a
+file has to stand in a crate that its row or paragraph names, and docs/READING.md has to cite every must-fail edit. Run it in the repository; it exits 1
+where something is missing.
 """
 import pathlib
 import re
 import sys
 
 TOP = pathlib.Path(__file__).resolve().parent.parent
-PAGES = ["README.md", "docs/READING.md", "docs/DECISIONS.md", "docs/ARCHITECTURE.md", "docs/TERMS.md"]
+PAGES = ["README.md"] + [f"docs/{name}.md" for name in ("READING", "OPERATING", "TESTING", "ARCHITECTURE", "TERMS", "DECISIONS")]
+# folders of which every path that is cited has to be there
+FOLDERS = "bench", "compare", "crates", "docs", "faults", "host", "rust", "samples", "second", "tools"
 CRATES = {path.name: path for path in (TOP / "crates").iterdir() if path.is_dir()}
 FILES = ("antt", "h", "md", "py", "txt")
 # the files of definitions by their names, and all files of specs by those of the records that they have
@@ -35,8 +37,8 @@ def edit(crate, label):
 
 
 def known(text, owners):
-    """Whether the name is that of a folder or of a file of specs, or one of the crates writes it in specs or code."""
-    if (TOP / text).is_dir() or any((path / "specs" / f"{text}.antt").exists() for path in CRATES.values()):
+    """Whether the name is that of a folder or of a file of specs, or the header or one of the crates writes it in specs or code."""
+    if (TOP / text).is_dir() or text in names(TOP / "host/packmap.h") or any((path / "specs" / f"{text}.antt").exists() for path in CRATES.values()):
         return True
     return any(text in names(path) for owner in owners for path in CRATES[owner].rglob("*") if path.suffix in (".antt", ".rt"))
 
@@ -61,9 +63,11 @@ def span(page, text, crate, owners):
         if not re.search(rf"\b(fn|enum|struct|const) {match[2]}\b", source):
             missing.append(f"{page}: {text} is not in that crate's source")
         return crate
-    match = re.fullmatch(r"crates/([a-z0-9_]+)(/.*)?", text)
-    if match and match[1] not in CRATES:
-        missing.append(f"{page}: {text} is no crate")
+    match = re.match(r"(?:python3 )?(([a-z]+)/[\w./-]+)", text)
+    if match and match[2] in FOLDERS and "target" not in match[1].split("/"):
+        if not (TOP / match[1]).exists():
+            missing.append(f"{page}: {match[1]} is not there")
+        return crate
     found = False
     for owner in (crate, "definitions"):
         if owner and edit(owner, text):

@@ -1,23 +1,18 @@
-//! The proved calls by name, where their library is built: `hashcliff`, and `job_call`
-//! for the whole job.
+//! The proved calls by name.
 
-use crate::Call;
+use crate::{refused, Call};
+use packmap::Refusal;
 
-#[cfg(proved)]
-#[path = "../../compare/src/calls.rs"]
-mod calls;
+/// 0, or what stands for the refusal.
+fn done(call: Result<(), Refusal>) -> u64 {
+    call.map_or_else(|refusal| refused(refusal.number()), |()| 0)
+}
 
-#[cfg(job)]
-#[path = "../../compare/src/host.rs"]
-mod host;
-
-#[cfg(proved)]
-fn of_hashcliff(name: &str) -> Option<Call> {
-    use crate::answer;
-    let call: Call = match name {
-        "check" => |_, l| answer(calls::check(l.n, &l.triangles, &mut l.scratch)),
+pub fn call(name: &str) -> Call {
+    match name {
+        "check" => |_, l| done(packmap::check(l.n, &l.triangles, &mut l.scratch)),
         "labels" => |_, l| {
-            answer(calls::labels(
+            done(packmap::labels(
                 l.n,
                 &l.triangles,
                 &mut l.labels,
@@ -25,7 +20,7 @@ fn of_hashcliff(name: &str) -> Option<Call> {
             ))
         },
         "forward" => |_, l| {
-            answer(calls::forward(
+            done(packmap::forward(
                 l.n,
                 &l.triangles,
                 &l.weights,
@@ -34,7 +29,7 @@ fn of_hashcliff(name: &str) -> Option<Call> {
             ))
         },
         "backward" => |_, l| {
-            answer(calls::backward(
+            done(packmap::backward(
                 l.n,
                 &l.triangles,
                 &l.coordinates,
@@ -43,39 +38,20 @@ fn of_hashcliff(name: &str) -> Option<Call> {
             ))
         },
         "repair" => |_, l| {
-            let (number, raises) = calls::repair(
+            packmap::repair(
                 l.n,
                 &l.triangles,
                 &mut l.weights,
                 &mut l.coordinates,
                 &mut l.scratch,
-            );
-            answer(number) + raises
+            )
+            .unwrap_or_else(|refusal| refused(refusal.number()))
         },
-        "snapping" => |_, l| answer(calls::snap(l.n, &l.shares, 0, &mut l.coordinates).0),
-        _ => return None,
-    };
-    Some(call)
-}
-
-#[cfg(not(proved))]
-fn of_hashcliff(_: &str) -> Option<Call> {
-    None
-}
-
-#[cfg(job)]
-fn of_job() -> Option<Call> {
-    Some(|_, l| host::host(&l.text, &mut l.listing))
-}
-
-#[cfg(not(job))]
-fn of_job() -> Option<Call> {
-    None
-}
-
-pub fn call(name: &str) -> Option<Call> {
-    match name {
-        "job" => of_job(),
-        _ => of_hashcliff(name),
+        "snapping" => |_, l| done(packmap::snap_points(l.n, &l.shares, 0, &mut l.coordinates)),
+        "job" => |_, l| {
+            packmap::job(&l.text, &mut l.listing)
+                .map_or_else(|refusal| refused(refusal.number()), |length| length as u64)
+        },
+        _ => unreachable!("a call that there is"),
     }
 }

@@ -1,11 +1,11 @@
 //! The second program's calls by name.
 
-use crate::{answer, Call};
+use crate::{refused, Call};
 use second::{labels, maps, mesh, repair, snap, text, Answer};
 
 /// 0, or what stands for the refusal.
 fn done(call: Answer<()>) -> u64 {
-    answer(call.map_or_else(|refusal| refusal.number.into(), |()| 0))
+    call.map_or_else(|refusal| refused(refusal.number), |()| 0)
 }
 
 pub fn call(name: &str) -> Call {
@@ -49,13 +49,13 @@ pub fn call(name: &str) -> Call {
                 &mut l.coordinates,
                 &mut l.scratch,
             );
-            made.map_or_else(
-                |refusal| answer(refusal.number.into()),
-                |raises| raises as u64,
-            )
+            made.map_or_else(|refusal| refused(refusal.number), |raises| raises as u64)
         },
         "snapping" => |_, l| done(snap::snap(l.n, 0, &l.shares, &mut l.coordinates)),
-        "job" => |w, l| text::host(w, &l.text, &mut l.listing),
+        "job" => |w, l| {
+            text::run(w, &l.text, &mut l.listing)
+                .map_or_else(|refusal| refused(refusal.number), |length| length as u64)
+        },
         _ => unreachable!("a call that there is"),
     }
 }

@@ -8,14 +8,18 @@
 //!                                        b1 of each vertex a line
 //!     bench one ROW N SEED PROGRAM       one run of a row's call, in the function `measured`, for
 //!                                        counting instructions
+//!     bench jobs THREADS SECONDS         n and proved jobs per second on so many threads, a line
+//!                                        for each n of `jobs::SIZES`, each measured for SECONDS
 //!
 //! SHAPE is random or nest, PROGRAM proved or second, ROW the first word of a row
-//! below. Fields of a line of times are parted by tabs, and '-' stands where there
-//! is nothing to tell. A time is the least of several runs, the two programs
-//! taking turns; both must answer and write the same, and none may refuse.
+//! below, THREADS and SECONDS 1 to 1000. Fields of a line of times or of jobs are
+//! parted by tabs, and '-' stands where a call makes no raises. A time is the least
+//! of several runs, the two programs taking turns; both must answer and write the
+//! same, and none may refuse.
 
 mod calls_proved;
 mod calls_second;
+mod jobs;
 
 use second::spheres::{scramble, weights, Rng, Surface};
 use second::text::{Job, MOST_BYTES};
@@ -83,27 +87,18 @@ impl Row {
         start.weigh(seed, self.weights);
         start
     }
-
-    /// Whether an answer tells of a refusal.
-    fn refused(&self, answer: u64) -> bool {
-        answer >= if self.call == "job" { 65_536 } else { REFUSED }
-    }
 }
 
-/// Past every count of raises.
+/// Past every count of raises and every length of a listing.
 const REFUSED: u64 = 1 << 32;
 
-/// A call's answer from the number of its refusal, which is 0 for none.
-fn answer(number: u64) -> u64 {
-    if number == 0 {
-        0
-    } else {
-        REFUSED | number
-    }
+/// What a call answers for a refusal.
+fn refused(number: u8) -> u64 {
+    REFUSED | u64::from(number)
 }
 
 /// What a call reads and writes. Its answer is 0, the count of raises, the
-/// length of a listing, or whatever says that it was refused.
+/// length of a listing, or what stands for a refusal.
 #[derive(Clone, PartialEq)]
 pub struct Lent {
     pub n: usize,
@@ -188,12 +183,9 @@ fn clock(call: impl FnOnce()) -> Duration {
 
 /// Answers and least times of calls that take turns on the same input, and what
 /// they leave.
-fn race(calls: &[Call], start: &Lent) -> Vec<(u64, Duration, Lent)> {
+fn race<const K: usize>(calls: [Call; K], start: &Lent) -> [(u64, Duration, Lent); K] {
     let mut work = Work::default();
-    let mut ends: Vec<_> = calls
-        .iter()
-        .map(|_| (0, Duration::MAX, start.clone()))
-        .collect();
+    let mut ends = calls.map(|_| (0, Duration::MAX, start.clone()));
     let begin = Instant::now();
     for run in 1..=RUNS.end {
         for (call, (answer, least, lent)) in calls.iter().zip(&mut ends) {
@@ -222,42 +214,38 @@ fn mesh(n: usize, seed: u64, shape: &str) {
 
 fn time(n: usize, seed: u64) -> Result<(), String> {
     for row in ROWS.iter().filter(|row| row.has(n)) {
-        let mut calls = vec![calls_second::call(row.call)];
-        calls.extend(calls_proved::call(row.call));
-        let ends = race(&calls, &row.start(n, seed));
-        let (answer, second, left) = &ends[0];
-        let same = ends.iter().all(|end| end.0 == *answer && end.2 == *left);
-        if !same || row.refused(*answer) {
+        let calls = [calls_second::call(row.call), calls_proved::call(row.call)];
+        let [(answer, second, left), (other, proved, right)] = &race(calls, &row.start(n, seed));
+        let same = answer == other && left == right;
+        if !same || *answer >= REFUSED {
             let what = if same { "is refused" } else { "differs" };
             return Err(format!("{} {what} at n = {n}, seed {seed}", row.name));
         }
-        let proved = ends.get(1).map_or("-".into(), |end| micros(end.1));
         let raises = match row.call {
             "repair" => answer.to_string(),
             _ => "-".into(),
         };
-        println!("{}\t{proved}\t{}\t{raises}", row.name, micros(*second));
+        let (proved, second) = (micros(*proved), micros(*second));
+        println!("{}\t{proved}\t{second}\t{raises}", row.name);
     }
     Ok(())
 }
 
-fn find(call: &str, program: &str) -> Result<Call, String> {
+fn find(call: &str, program: &str) -> Call {
     match program {
-        "proved" => calls_proved::call(call).ok_or(format!("{call} is not built")),
-        _ => Ok(calls_second::call(call)),
+        "proved" => calls_proved::call(call),
+        _ => calls_second::call(call),
     }
 }
 
-fn draw(n: usize, seed: u64, shape: &str, program: &str) -> Result<(), String> {
-    let call = find("forward", program)?;
+fn draw(n: usize, seed: u64, shape: &str, program: &str) {
     let mut start = Lent::new(n, seed, shape);
     start.weigh(seed, "unit");
-    let (_, least, left) = &race(&[call], &start)[0];
+    let [(_, least, left)] = &race([find("forward", program)], &start);
     println!("{}", micros(*least));
     for b in left.coordinates.chunks_exact(3) {
         println!("{} {}", b[0], b[1]);
     }
-    Ok(())
 }
 
 #[inline(never)]
@@ -265,8 +253,8 @@ fn measured(call: Call, work: &mut Work, lent: &mut Lent) -> u64 {
     call(work, lent)
 }
 
-fn one(row: &Row, n: usize, seed: u64, program: &str) -> Result<(), String> {
-    let call = find(row.call, program)?;
+fn one(row: &Row, n: usize, seed: u64, program: &str) {
+    let call = find(row.call, program);
     let mut work = Work::default();
     let start = row.start(n, seed);
     // The second program keeps its buffers from call to call.
@@ -274,7 +262,6 @@ fn one(row: &Row, n: usize, seed: u64, program: &str) -> Result<(), String> {
         call(&mut work, &mut start.clone());
     }
     println!("{}", measured(call, &mut work, &mut start.clone()));
-    Ok(())
 }
 
 /// None where the words make no command.
@@ -282,12 +269,10 @@ fn run(words: &[&str]) -> Option<Result<(), String>> {
     let number = |k: usize| words.get(k)?.parse::<usize>().ok();
     let size = |k: usize| number(k).filter(|n| VERTICES.contains(n));
     let seed = |k: usize| number(k).map(|seed| seed as u64);
-    Some(match words {
-        ["time", _, _] => time(size(1)?, seed(2)?),
-        ["mesh", _, _, shape @ ("random" | "nest")] => {
-            mesh(size(1)?, seed(2)?, shape);
-            Ok(())
-        }
+    let positive = |k: usize| number(k).filter(|x| (1..=1000).contains(x));
+    match words {
+        ["time", _, _] => return Some(time(size(1)?, seed(2)?)),
+        ["mesh", _, _, shape @ ("random" | "nest")] => mesh(size(1)?, seed(2)?, shape),
         ["draw", _, _, shape @ ("random" | "nest"), program @ ("proved" | "second")] => {
             draw(size(1)?, seed(2)?, shape, program)
         }
@@ -296,8 +281,10 @@ fn run(words: &[&str]) -> Option<Result<(), String>> {
             let row = ROWS.iter().find(|row| row.word == *word && row.has(n))?;
             one(row, n, seed, program)
         }
+        ["jobs", _, _] => jobs::run(positive(1)?, positive(2)? as u64),
         _ => return None,
-    })
+    }
+    Some(Ok(()))
 }
 
 fn main() -> ExitCode {
@@ -312,6 +299,7 @@ fn main() -> ExitCode {
         None => {
             eprintln!("bench time N SEED\nbench mesh N SEED SHAPE");
             eprintln!("bench draw N SEED SHAPE PROGRAM\nbench one ROW N SEED PROGRAM");
+            eprintln!("bench jobs THREADS SECONDS");
             ExitCode::from(2)
         }
     }

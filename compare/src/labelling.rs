@@ -1,23 +1,20 @@
 //! Labels on random spheres from 3 to 4,096 vertices, on damaged meshes, and
 //! with wrong lengths.
 
-use crate::calls;
-use crate::meshes::{stale, vertices};
-use crate::tally::Tally;
+use crate::meshes::{stale, stale_bytes, vertices};
+use crate::tally::{told, Tally};
 use second::spheres::{self, Rng};
 use second::{damage, labels, Work};
 
 fn one(tally: &mut Tally, work: &mut Work, n: usize, triangles: &[u16], cut: usize) {
     let len = (6 * n).saturating_sub(15 + cut);
-    let (mut ours, mut theirs) = (vec![9; len], vec![9; len]);
+    let (mut ours, mut theirs) = (stale_bytes(len), stale_bytes(len));
     let (mut scratch, mut other) = (stale(24 * n), stale(24 * n));
-    let number = calls::labels(n, triangles, &mut ours, &mut scratch);
-    let answer = labels::labels(work, n, triangles, &mut theirs, &mut other);
-    let same = number == answer.err().map_or(0, |r| u64::from(r.number))
-        && ours == theirs
-        && scratch == other;
-    tally.count(number, same, || {
-        format!("n {n}, {triangles:?}: {number} and {answer:?}")
+    let answer = told(packmap::labels(n, triangles, &mut ours, &mut scratch));
+    let wanted = labels::labels(work, n, triangles, &mut theirs, &mut other);
+    let same = answer == wanted && ours == theirs && scratch == other;
+    tally.count(answer, same, || {
+        format!("n {n}, {triangles:?}: {answer:?} and {wanted:?}")
     });
 }
 

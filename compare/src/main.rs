@@ -5,7 +5,7 @@
 //!
 //! Its last line is 'N passed, M failed'; a group of calls that all agree counts as one.
 
-mod calls;
+mod jobs;
 mod labelling;
 mod mapping;
 mod meshes;
@@ -27,6 +27,7 @@ fn main() {
         backward,
         repairing::run(count, seed),
         snapping::run(250 * count, seed),
+        jobs::run(count, seed),
     ];
     let passed = groups.iter().filter(|group| group.passed()).count();
     let failed = groups.len() - passed;

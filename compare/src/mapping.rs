@@ -1,13 +1,13 @@
 //! Forward and backward on random spheres, with weights and coordinates of
 //! every kind, at the limits too, and with refused ones.
 
-use crate::calls;
 use crate::meshes::{stale, vertices};
-use crate::tally::Tally;
+use crate::tally::{told, Tally};
 use second::spheres::{self, Rng};
-use second::{damage, maps, Answer, Sizes, Work};
+use second::{damage, maps, Sizes, Work};
 
-/// What two calls left in the slices they write.
+/// The slices that a call writes.
+#[derive(PartialEq)]
 struct Left {
     to: Vec<i64>,
     scratch: Vec<i64>,
@@ -22,18 +22,14 @@ impl Left {
     }
 }
 
-fn agree(number: u64, answer: Answer<()>, ours: &Left, theirs: &Left) -> bool {
-    number == answer.err().map_or(0, |r| u64::from(r.number))
-        && ours.to == theirs.to
-        && ours.scratch == theirs.scratch
-}
-
 fn forth(tally: &mut Tally, work: &mut Work, n: usize, mesh: &[u16], weights: &[i64]) -> Vec<i64> {
     let (mut ours, mut theirs) = (Left::lent(3 * n, n), Left::lent(3 * n, n));
-    let number = calls::forward(n, mesh, weights, &mut ours.to, &mut ours.scratch);
-    let answer = maps::forward(work, n, mesh, weights, &mut theirs.to, &mut theirs.scratch);
-    tally.count(number, agree(number, answer, &ours, &theirs), || {
-        format!("n {n}, {mesh:?}, {weights:?}: {number} and {answer:?}")
+    let (to, scratch) = (&mut ours.to, &mut ours.scratch);
+    let answer = told(packmap::forward(n, mesh, weights, to, scratch));
+    let (to, scratch) = (&mut theirs.to, &mut theirs.scratch);
+    let wanted = maps::forward(work, n, mesh, weights, to, scratch);
+    tally.count(answer, answer == wanted && ours == theirs, || {
+        format!("n {n}, {mesh:?}, {weights:?}: {answer:?} and {wanted:?}")
     });
     ours.to
 }
@@ -41,17 +37,12 @@ fn forth(tally: &mut Tally, work: &mut Work, n: usize, mesh: &[u16], weights: &[
 fn back(tally: &mut Tally, work: &mut Work, n: usize, mesh: &[u16], coordinates: &[i64]) {
     let len = Sizes::of(n).map_or(0, |s| s.weights);
     let (mut ours, mut theirs) = (Left::lent(len, n), Left::lent(len, n));
-    let number = calls::backward(n, mesh, coordinates, &mut ours.to, &mut ours.scratch);
-    let answer = maps::backward(
-        work,
-        n,
-        mesh,
-        coordinates,
-        &mut theirs.to,
-        &mut theirs.scratch,
-    );
-    tally.count(number, agree(number, answer, &ours, &theirs), || {
-        format!("n {n}, {mesh:?}, {coordinates:?}: {number} and {answer:?}")
+    let (to, scratch) = (&mut ours.to, &mut ours.scratch);
+    let answer = told(packmap::backward(n, mesh, coordinates, to, scratch));
+    let (to, scratch) = (&mut theirs.to, &mut theirs.scratch);
+    let wanted = maps::backward(work, n, mesh, coordinates, to, scratch);
+    tally.count(answer, answer == wanted && ours == theirs, || {
+        format!("n {n}, {mesh:?}, {coordinates:?}: {answer:?} and {wanted:?}")
     });
 }
 

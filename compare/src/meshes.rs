@@ -1,8 +1,7 @@
 //! The mesh check: random spheres and damaged meshes from 3 to 4,096 vertices,
 //! and wrong lengths, with scratch that holds something.
 
-use crate::calls;
-use crate::tally::Tally;
+use crate::tally::{told, Tally};
 use second::spheres::{self, Rng};
 use second::{damage, mesh, Sizes, Work};
 
@@ -15,19 +14,23 @@ pub fn vertices(rng: &mut Rng) -> usize {
     }
 }
 
-/// Scratch as it may be lent.
+/// Numbers that a lent slice may hold.
 pub fn stale(len: usize) -> Vec<i64> {
     (0..len as i64).map(|i| i * 0x9e37_79b9 - 5).collect()
+}
+
+/// Bytes that a lent slice may hold.
+pub fn stale_bytes(len: usize) -> Vec<u8> {
+    (0..len).map(|i| (i * 7 + 3) as u8).collect()
 }
 
 fn one(tally: &mut Tally, work: &mut Work, n: usize, triangles: &[u16], len: usize) {
     let mut ours = stale(len);
     let mut theirs = ours.clone();
-    let number = calls::check(n, triangles, &mut ours);
-    let answer = mesh::check(work, n, triangles, &mut theirs);
-    let same = number == answer.err().map_or(0, |r| u64::from(r.number)) && ours == theirs;
-    tally.count(number, same, || {
-        format!("n {n}, {triangles:?}: {number} and {answer:?}")
+    let answer = told(packmap::check(n, triangles, &mut ours));
+    let wanted = mesh::check(work, n, triangles, &mut theirs);
+    tally.count(answer, answer == wanted && ours == theirs, || {
+        format!("n {n}, {triangles:?}: {answer:?} and {wanted:?}")
     });
 }
 

@@ -1,33 +1,29 @@
 //! Document 01's checked shells through the proved calls: P1 to P5, with the
 //! paper's own numbers.
 
-use crate::calls;
 use crate::meshes::stale;
-use crate::tally::Tally;
-
-const PAIR: [u16; 6] = [0, 2, 1, 0, 1, 2];
-const TETRA: [u16; 12] = [0, 2, 1, 0, 3, 2, 3, 1, 2, 0, 1, 3];
-const FIVE: [u16; 18] = [0, 2, 1, 0, 3, 2, 3, 1, 2, 0, 1, 4, 1, 3, 4, 3, 0, 4];
+use crate::tally::{told, Tally};
+use second::shells::{FIVE, PAIR, TETRA};
 
 fn labels(tally: &mut Tally, n: usize, mesh: &[u16], wanted: &[u8]) {
     let mut ours = vec![9; wanted.len()];
     let mut scratch = stale(24 * n);
-    let number = calls::labels(n, mesh, &mut ours, &mut scratch);
-    let same = number == 0 && ours == wanted && scratch.iter().all(|&x| x == 0);
-    tally.count(number, same, || format!("labels {ours:?}"));
+    let answer = told(packmap::labels(n, mesh, &mut ours, &mut scratch));
+    let same = answer.is_ok() && ours == wanted && scratch.iter().all(|&x| x == 0);
+    tally.count(answer, same, || format!("labels {ours:?}"));
 }
 
 /// Weights to coordinates and back.
 fn maps(tally: &mut Tally, n: usize, mesh: &[u16], weights: &[i64], wanted: &[i64]) {
     let mut scratch = stale(24 * n);
     let mut there = vec![7; wanted.len()];
-    let number = calls::forward(n, mesh, weights, &mut there, &mut scratch);
-    tally.count(number, number == 0 && there == wanted, || {
+    let answer = told(packmap::forward(n, mesh, weights, &mut there, &mut scratch));
+    tally.count(answer, answer.is_ok() && there == wanted, || {
         format!("coordinates {there:?}")
     });
     let mut back = vec![7; weights.len()];
-    let number = calls::backward(n, mesh, wanted, &mut back, &mut scratch);
-    tally.count(number, number == 0 && back == weights, || {
+    let answer = told(packmap::backward(n, mesh, wanted, &mut back, &mut scratch));
+    tally.count(answer, answer.is_ok() && back == weights, || {
         format!("weights {back:?}")
     });
 }

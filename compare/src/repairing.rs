@@ -2,46 +2,46 @@
 //! the limit, refused by 9, and stopped by 13; and P6 to P8 with row 13's
 //! example, with the paper's own numbers.
 
-use crate::calls;
 use crate::meshes::{stale, vertices};
-use crate::tally::Tally;
+use crate::tally::{told, Tally};
+use second::shells::TETRA;
 use second::spheres::{self, Rng};
-use second::{damage, repair, Extra, Work};
+use second::{damage, repair, Answer, Extra, Refusal, Work};
+
+/// The proved call.
+fn raised(
+    n: usize,
+    mesh: &[u16],
+    weights: &mut [i64],
+    coordinates: &mut [i64],
+    scratch: &mut [i64],
+) -> Answer<usize> {
+    told(packmap::repair(n, mesh, weights, coordinates, scratch)).map(|raises| raises as usize)
+}
 
 fn one(tally: &mut Tally, work: &mut Work, n: usize, mesh: &[u16], weights: &[i64]) {
     let (mut ours, mut theirs) = (weights.to_vec(), weights.to_vec());
     let (mut there, mut other) = (stale(3 * n), stale(3 * n));
     let (mut scratch, mut spare) = (stale(24 * n), stale(24 * n));
-    let (number, count) = calls::repair(n, mesh, &mut ours, &mut there, &mut scratch);
-    let answer = repair::repair(work, n, mesh, &mut theirs, &mut other, &mut spare);
-    let same = match answer {
-        Ok(raises) => number == 0 && count == raises as u64,
-        Err(r) => {
-            let told = match r.extra {
-                Extra::Count(raises) => raises as u64,
-                _ => 0,
-            };
-            number == u64::from(r.number) && count == told
-        }
-    };
+    let answer = raised(n, mesh, &mut ours, &mut there, &mut scratch);
+    let wanted = repair::repair(work, n, mesh, &mut theirs, &mut other, &mut spare);
     let buffers = ours == theirs && there == other && scratch == spare;
-    tally.count(number, same && buffers, || {
-        format!("n {n}, {mesh:?}, {weights:?}: {number}, {count} and {answer:?}")
+    tally.count(answer, answer == wanted && buffers, || {
+        format!("n {n}, {mesh:?}, {weights:?}: {answer:?} and {wanted:?}")
     });
 }
 
 /// The tetra: weights in, the answer and the weights out.
-fn paper(tally: &mut Tally, weights: [i64; 3], wanted: (u64, u64), left: [i64; 3]) {
-    let tetra = [0, 2, 1, 0, 3, 2, 3, 1, 2, 0, 1, 3];
+fn paper(tally: &mut Tally, weights: [i64; 3], wanted: Answer<usize>, left: [i64; 3]) {
     let mut ours = weights;
     let mut there = stale(12);
-    let answer = calls::repair(4, &tetra, &mut ours, &mut there, &mut stale(96));
+    let answer = raised(4, &TETRA, &mut ours, &mut there, &mut stale(96));
     let total: i64 = left.iter().sum();
     let places = [
         total, 0, 0, 0, total, 0, 0, 0, total, left[1], left[0], left[2],
     ];
     tally.count(
-        answer.0,
+        answer,
         answer == wanted && ours == left && there == places,
         || format!("{weights:?}: {answer:?}, {ours:?}, {there:?}"),
     );
@@ -51,11 +51,15 @@ pub fn run(count: usize, seed: u64) -> Tally {
     let mut rng = Rng(seed);
     let mut work = Work::default();
     let mut tally = Tally::new("repair", &[0, 1, 2, 3, 4, 5, 6, 7, 8, 9, 13]);
-    paper(&mut tally, [5, 3, -1], (0, 1), [5, 3, 1]);
-    paper(&mut tally, [0, 0, 0], (0, 3), [1, 1, 1]);
-    paper(&mut tally, [-1, -1, -1], (0, 0), [-1, -1, -1]);
+    paper(&mut tally, [5, 3, -1], Ok(1), [5, 3, 1]);
+    paper(&mut tally, [0, 0, 0], Ok(3), [1, 1, 1]);
+    paper(&mut tally, [-1, -1, -1], Ok(0), [-1, -1, -1]);
     let stopped = [1, -1_073_741_821, 1];
-    paper(&mut tally, stopped, (13, 0), stopped);
+    let refused = Refusal {
+        number: 13,
+        extra: Extra::Count(0),
+    };
+    paper(&mut tally, stopped, Err(refused), stopped);
     one(&mut tally, &mut work, 2, &[], &[]);
     for _ in 0..count {
         let n = vertices(&mut rng).min(400);

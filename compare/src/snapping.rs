@@ -2,10 +2,9 @@
 //! wrong lengths, scales and n among them. The whole numbers are held against
 //! exact integer arithmetic besides.
 
-use crate::calls;
-use crate::tally::Tally;
+use crate::tally::{told, Tally};
 use second::spheres::Rng;
-use second::{naive, snap, Extra};
+use second::{naive, snap};
 
 /// Patterns without their sign: zero, subnormals, powers of two with their
 /// neighbours, what lies about 2, infinity and NaNs.
@@ -33,23 +32,17 @@ fn random(rng: &mut Rng) -> f64 {
 fn one(tally: &mut Tally, n: usize, shares: &[f64], scale: u32, len: usize) {
     let mut ours: Vec<i64> = (0..len as i64).map(|i| i - 7).collect();
     let mut theirs = ours.clone();
-    let (number, share) = calls::snap(n, shares, scale, &mut ours);
-    let answer = snap::snap(n, scale, shares, &mut theirs);
-    let same = match answer {
-        Ok(()) => number == 0,
-        Err(r) => match r.extra {
-            Extra::Share(s) => number == 16 && s.to_bits() == share.to_bits(),
-            _ => number == u64::from(r.number),
-        },
-    };
+    let answer = told(packmap::snap_points(n, shares, scale, &mut ours));
+    let wanted = snap::snap(n, scale, shares, &mut theirs);
     let r = if scale == 0 { snap::USUAL_SCALE } else { scale };
-    let exact = number != 0
+    let exact = answer.is_err()
         || shares
             .chunks_exact(2)
             .zip(ours.chunks_exact(3))
             .all(|(p, b)| naive::snapped(p[0], r, b[0]) && naive::snapped(p[1], r, b[1]));
-    tally.count(number, same && exact && ours == theirs, || {
-        format!("n {n}, scale {scale}, {shares:?}: {number} and {answer:?}")
+    let same = answer == wanted && exact && ours == theirs;
+    tally.count(answer, same, || {
+        format!("n {n}, scale {scale}, {shares:?}: {answer:?} and {wanted:?}")
     });
 }
 

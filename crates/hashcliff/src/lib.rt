@@ -1,5 +1,5 @@
-// The public calls for callers in other languages, for tests and benchmarks. A slice is a pointer and a length. Each answers the number of its refusal, or 0.
-// The header `hashcliff.h` in this crate's folder declares them for C.
+// The public calls as a library for C: a slice is a pointer and a length, and a call answers the number of its refusal, or 0. `host/packmap.h` declares them;
+// `packmap_job` of crate `job_call` completes the library.
 ghost use mathlib.Core.Path.{_≡_};
 ghost use Rattle.definitions.specs.Refusals.{checkCall, labelsCall, forwardCall, backwardCall, repairCall, snapCall};
 ghost use Rattle.hashcliff.specs.Numbers.{numberOf, shareOf, repairNumber, countOf};
@@ -10,7 +10,7 @@ use repair_call::RepairAnswer;
 use snap_call::SnapAnswer;
 
 #[no_mangle]
-pub extern "C" fn mesh_check_c(n: usize, triangles: &[u16], scratch: &mut [i64]) -> u64
+pub extern "C" fn packmap_mesh_check(n: usize, triangles: &[u16], scratch: &mut [i64]) -> u64
     ensures answer { λ r. ⌜ r ≡ numberOf (checkCall n (now (triangles .entry)) (now (scratch .entry)) .answer) ⌝ }
     ensures scratch { λ r. ⌜ now (scratch .exit) ≡ checkCall n (now (triangles .entry)) (now (scratch .entry)) .scratch ⌝ }
 {
@@ -21,7 +21,7 @@ pub extern "C" fn mesh_check_c(n: usize, triangles: &[u16], scratch: &mut [i64])
 }
 
 #[no_mangle]
-pub extern "C" fn labels_c(
+pub extern "C" fn packmap_labels(
     n: usize,
     triangles: &[u16],
     labels: &mut [u8],
@@ -38,7 +38,7 @@ pub extern "C" fn labels_c(
 }
 
 #[no_mangle]
-pub extern "C" fn forward_c(
+pub extern "C" fn packmap_forward(
     n: usize,
     triangles: &[u16],
     weights: &[i64],
@@ -59,7 +59,7 @@ pub extern "C" fn forward_c(
 }
 
 #[no_mangle]
-pub extern "C" fn backward_c(
+pub extern "C" fn packmap_backward(
     n: usize,
     triangles: &[u16],
     coordinates: &[i64],
@@ -81,7 +81,7 @@ pub extern "C" fn backward_c(
 
 // With 0 and 13 the count of raises is left behind `count`, which else keeps what it held.
 #[no_mangle]
-pub extern "C" fn repair_c(
+pub extern "C" fn packmap_repair(
     n: usize,
     triangles: &[u16],
     weights: &mut [i64],
@@ -115,7 +115,7 @@ pub extern "C" fn repair_c(
 
 // With 16 the share is left behind `outside`, which else keeps what it held.
 #[no_mangle]
-pub extern "C" fn snap_points_c(
+pub extern "C" fn packmap_snap_points(
     n: usize,
     shares: &[f64],
     scale: u32,

@@ -1,12 +1,12 @@
--- `hashcliff::forward_c` meets its contract, by what `forward` ensures of its answer and of the slices. Assumes nothing.
+-- `hashcliff::packmap_backward` meets its contract, by what `backward` ensures of its answer and of the slices. Assumes nothing.
 use Rattle.maps_call.specs.Answer.{mapToAnswer}
 use Rattle.hashcliff.specs.Numbers.{numberOf, told}
 use borrow.Author.Needs.{needs}
-use Rattle.hashcliff.proofs.forward_c.Statement.{statement}
-use Rattle.hashcliff.proofs.forward_c.Tie as tie
+use Rattle.hashcliff.proofs.packmap_backward.Statement.{statement}
+use Rattle.hashcliff.proofs.packmap_backward.Tie as tie
 
-pub forward-c-spec : {M : Type 1} → statement M
-forward-c-spec =
+pub packmap-backward-spec : {M : Type 1} → statement M
+packmap-backward-spec =
     tie.close
     (tie.spec
     (λ c κs. search needs)

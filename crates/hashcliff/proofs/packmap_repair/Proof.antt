@@ -1,9 +1,9 @@
--- `hashcliff::repair_c` meets its contract, by what `repair` ensures of its answer and of the slices. Assumes nothing.
+-- `hashcliff::packmap_repair` meets its contract, by what `repair` ensures of its answer and of the slices. Assumes nothing.
 use Rattle.repair_call.specs.Answer.{repairToAnswer}
 use Rattle.hashcliff.specs.Numbers.{repairNumber, countOf, told, told-lent}
 use borrow.Author.Needs.{needs}
-use Rattle.hashcliff.proofs.repair_c.Statement.{statement}
-use Rattle.hashcliff.proofs.repair_c.Tie as tie
+use Rattle.hashcliff.proofs.packmap_repair.Statement.{statement}
+use Rattle.hashcliff.proofs.packmap_repair.Tie as tie
 
 returns : tie.Need-returns
 returns c = (search (told repairToAnswer repairNumber), (search (told-lent repairToAnswer countOf), search))
@@ -14,8 +14,8 @@ returns-2 c = (search (told repairToAnswer repairNumber), (search (told-lent rep
 returns-3 : tie.Need-returns-3
 returns-3 c = (search (told repairToAnswer repairNumber), (search (told-lent repairToAnswer countOf), search))
 
-pub repair-c-spec : {M : Type 1} → statement M
-repair-c-spec =
+pub packmap-repair-spec : {M : Type 1} → statement M
+packmap-repair-spec =
     tie.close
     (tie.spec
     (λ c κs. search needs)

@@ -1,12 +1,12 @@
--- `hashcliff::labels_c` meets its contract, by what `labels` ensures of its answer and of the slices. Assumes nothing.
+-- `hashcliff::packmap_labels` meets its contract, by what `labels` ensures of its answer and of the slices. Assumes nothing.
 use Rattle.labels_call.specs.Answer.{labelsToAnswer}
 use Rattle.hashcliff.specs.Numbers.{numberOf, told}
 use borrow.Author.Needs.{needs}
-use Rattle.hashcliff.proofs.labels_c.Statement.{statement}
-use Rattle.hashcliff.proofs.labels_c.Tie as tie
+use Rattle.hashcliff.proofs.packmap_labels.Statement.{statement}
+use Rattle.hashcliff.proofs.packmap_labels.Tie as tie
 
-pub labels-c-spec : {M : Type 1} → statement M
-labels-c-spec =
+pub packmap-labels-spec : {M : Type 1} → statement M
+packmap-labels-spec =
     tie.close
     (tie.spec
     (λ c κs. search needs)

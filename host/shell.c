@@ -1,0 +1,136 @@
+/* Every call on lent slices, by the example of a shell of 1,000 vertices: it is checked, labelled, mapped from weights
+ * to coordinates and back, and then a drawing of it that is bent in places is snapped to whole numbers and repaired.
+ *
+ *     cc -IFOLDER/include host/shell.c -LFOLDER/lib -lpackmap && ./a.out
+ *
+ * It is C and C++. Each step is held against what the calls promise. Exit status: 0 if all of it holds, 1 otherwise.
+ *
+ * The shell is a tube of 333 rings of three vertices, closed by a tip. Vertex 3j + k is vertex k of ring j. Ring 0 is
+ * the rim, with v0 = 0, v1 = 1, v2 = 2. */
+#include <stdio.h>
+#include <stdlib.h>
+#include <string.h>
+
+#include "packmap.h"
+
+enum { RINGS = 333, N = 3 * RINGS + 1, TIP = N - 1, SCALE = 16 };
+
+static uint16_t triangles[PACKMAP_TRIANGLES(N)];
+static uint8_t labels[PACKMAP_LABELS(N)];
+static int64_t weights[PACKMAP_WEIGHTS(N)], again[PACKMAP_WEIGHTS(N)];
+static int64_t coordinates[PACKMAP_COORDINATES(N)], redrawn[PACKMAP_COORDINATES(N)];
+static double shares[PACKMAP_SHARES(N)];
+static int64_t scratch[PACKMAP_SCRATCH(N)];
+
+#define ITEMS(slice) (sizeof(slice) / sizeof *(slice))
+
+/* Ends the program unless a call answered 0. */
+static void done(const char *call, uint64_t number) {
+    if (number == PACKMAP_DONE)
+        return;
+    printf("%s: refused with %u, %s\n", call, (unsigned)number, packmap_words(number));
+    exit(1);
+}
+
+/* Ends the program unless something holds. */
+static void holds(const char *what, int held) {
+    printf("%s: %s\n", what, held ? "yes" : "NO");
+    if (!held)
+        exit(1);
+}
+
+static uint16_t *triangle(uint16_t *to, int a, int b, int c) {
+    to[0] = (uint16_t)a, to[1] = (uint16_t)b, to[2] = (uint16_t)c;
+    return to + 3;
+}
+
+/* The outer triangle first, v0, v2, v1; then the tube ring by ring, and the three triangles at the tip. */
+static void make_shell(void) {
+    uint16_t *to = triangle(triangles, 0, 2, 1);
+    for (int ring = 0; ring < RINGS; ring++) {
+        int from = 3 * ring, next = from + 3;
+        for (int k = 0; k < 3; k++) {
+            int after = (k + 1) % 3;
+            if (ring == RINGS - 1) {
+                to = triangle(to, from + k, from + after, TIP);
+                continue;
+            }
+            to = triangle(to, from + k, from + after, next + k);
+            to = triangle(to, from + after, next + after, next + k);
+        }
+    }
+}
+
+/* A drawing in doubles. Each ring is smaller than the one before it, but every 50th is drawn too large, so that
+ * triangles beside it are turned. The shares of a vertex say how near to v0 and to v1 it is drawn. */
+static void draw_shell(void) {
+    for (int ring = 0; ring < RINGS; ring++) {
+        double size = 1.0 - (double)(ring % 50 == 49 ? ring - 3 : ring) / RINGS;
+        for (int k = 0; k < 3; k++)
+            for (int corner = 0; corner < 2; corner++)
+                shares[2 * (3 * ring + k) + corner] = (1.0 - size) / 3 + (k == corner ? size : 0);
+    }
+    shares[2 * TIP] = shares[2 * TIP + 1] = 1.0 / 3;
+}
+
+/* How many inner triangles of a drawing are flat or turned. */
+static size_t flat_or_turned(const int64_t *b) {
+    size_t count = 0;
+    for (size_t t = 3; t < ITEMS(triangles); t += 3) {
+        const int64_t *p = b + 3 * triangles[t], *q = b + 3 * triangles[t + 1], *r = b + 3 * triangles[t + 2];
+        int64_t area = (q[0] - p[0]) * (r[1] - p[1]) - (q[1] - p[1]) * (r[0] - p[0]);
+        count += area <= 0;
+    }
+    return count;
+}
+
+/* Whether each inner triangle has the labels 0, 1, 2 along its sides. */
+static int labelled(void) {
+    for (size_t t = 0; t < ITEMS(labels); t += 3)
+        if (labels[t] > 2 || labels[t + 1] != (labels[t] + 1) % 3 || labels[t + 2] != (labels[t] + 2) % 3)
+            return 0;
+    return 1;
+}
+
+int main(void) {
+    uint64_t raises = 0;
+    double outside = 0;
+
+    make_shell();
+    done("check", packmap_mesh_check(N, triangles, ITEMS(triangles), scratch, ITEMS(scratch)));
+    printf("a sphere of %d vertices and %d triangles\n", N, (int)(ITEMS(triangles) / 3));
+    done("labels", packmap_labels(N, triangles, ITEMS(triangles), labels, ITEMS(labels), scratch, ITEMS(scratch)));
+    holds("labels 0, 1, 2 along each triangle", labelled());
+
+    /* weights that are all 1 give a drawing with no triangle flat or turned, and come back from it */
+    for (size_t t = 0; t < ITEMS(weights); t++)
+        weights[t] = 1;
+    done("forward", packmap_forward(N, triangles, ITEMS(triangles), weights, ITEMS(weights), coordinates,
+                                    ITEMS(coordinates), scratch, ITEMS(scratch)));
+    holds("weights of 1: no triangle flat or turned", flat_or_turned(coordinates) == 0);
+    done("backward", packmap_backward(N, triangles, ITEMS(triangles), coordinates, ITEMS(coordinates), again,
+                                      ITEMS(again), scratch, ITEMS(scratch)));
+    holds("the same weights come back", memcmp(weights, again, sizeof weights) == 0);
+
+    /* a drawing in doubles becomes coordinates, these give weights, and the weights are repaired */
+    draw_shell();
+    done("snapping", packmap_snap_points(N, shares, ITEMS(shares), SCALE, coordinates, ITEMS(coordinates), &outside));
+    size_t bent = flat_or_turned(coordinates);
+    printf("the drawing in doubles, snapped: %u triangles flat or turned\n", (unsigned)bent);
+    done("backward", packmap_backward(N, triangles, ITEMS(triangles), coordinates, ITEMS(coordinates), weights,
+                                      ITEMS(weights), scratch, ITEMS(scratch)));
+    memcpy(again, weights, sizeof weights);
+    done("repair", packmap_repair(N, triangles, ITEMS(triangles), weights, ITEMS(weights), coordinates,
+                                  ITEMS(coordinates), scratch, ITEMS(scratch), &raises));
+    printf("repaired with %u raises\n", (unsigned)raises);
+    holds("there was something to repair", bent > 0 && raises > 0);
+    holds("no triangle flat or turned any more", flat_or_turned(coordinates) == 0);
+    uint64_t changed = 0;
+    for (size_t t = 0; t < ITEMS(weights); t++)
+        changed += weights[t] != again[t];
+    holds("as many weights changed as raises were made", changed == raises);
+    done("forward", packmap_forward(N, triangles, ITEMS(triangles), weights, ITEMS(weights), redrawn, ITEMS(redrawn),
+                                    scratch, ITEMS(scratch)));
+    holds("the coordinates are those of the repaired weights", memcmp(coordinates, redrawn, sizeof redrawn) == 0);
+    return 0;
+}

@@ -1,0 +1,110 @@
+//! Integer drawings of triangulated spheres: labels, coordinates from weights and back, and a
+//! repair that leaves no triangle flat or turned. The functions here are safe wrappers of proved
+//! calls, which are linked from one archive, `libpackmap.a`.
+//!
+//! | Function | Reads | Writes |
+//! |---|---|---|
+//! | [`check`] | triangles | nothing: tests that they form a sphere |
+//! | [`labels`] | triangles | a label 0, 1, 2 for each corner of each inner triangle |
+//! | [`forward`] | triangles, weights | coordinates |
+//! | [`backward`] | triangles, coordinates | weights |
+//! | [`repair`] | triangles, weights | raised weights and their coordinates |
+//! | [`snap_points`] | drawn points | coordinates |
+//! | [`job`] | a job text: triangles and weights | a listing: the coordinates after repair |
+//!
+//! # Example
+//!
+//! ```
+//! // A tetrahedron. The first triangle is the outer one: v0 = 0, v2 = 2, v1 = 1.
+//! let n = 4;
+//! let triangles = [0, 2, 1, 0, 3, 2, 3, 1, 2, 0, 1, 3];
+//! let mut scratch = vec![0; packmap::scratch_len(n)];
+//! packmap::check(n, &triangles, &mut scratch)?;
+//!
+//! let mut labels = vec![0; packmap::labels_len(n)];
+//! packmap::labels(n, &triangles, &mut labels, &mut scratch)?;
+//! assert_eq!(labels, [0, 1, 2, 0, 1, 2, 0, 1, 2]);
+//!
+//! // From weights to coordinates, and back.
+//! let mut coordinates = vec![0; packmap::coordinates_len(n)];
+//! packmap::forward(n, &triangles, &[5, 3, 2], &mut coordinates, &mut scratch)?;
+//! assert_eq!(coordinates, [10, 0, 0, 0, 10, 0, 0, 0, 10, 3, 5, 2]);
+//! let mut weights = vec![0; packmap::weights_len(n)];
+//! packmap::backward(n, &triangles, &coordinates, &mut weights, &mut scratch)?;
+//! assert_eq!(weights, [5, 3, 2]);
+//!
+//! // With -1 for the 2, the last triangle is turned. One raise puts it right.
+//! let mut weights = [5, 3, -1];
+//! let raises = packmap::repair(n, &triangles, &mut weights, &mut coordinates, &mut scratch)?;
+//! assert_eq!((raises, weights), (1, [5, 3, 1]));
+//! assert_eq!(coordinates, [9, 0, 0, 0, 9, 0, 0, 0, 9, 3, 5, 1]);
+//!
+//! // A refusal says what is wrong.
+//! let short = packmap::forward(n, &triangles, &[5, 3], &mut coordinates, &mut scratch);
+//! assert_eq!(short, Err(packmap::Refusal::Length));
+//! # Ok::<(), packmap::Refusal>(())
+//! ```
+//!
+//! # Meshes
+//!
+//! A mesh has `n` vertices, 3 to 4,096, numbered from 0, and `2n - 4` triangles of three vertex
+//! numbers each, all listed in the same sense of rotation. The first triangle is the outer one; its
+//! vertices, as listed, are v0, v2, v1. The other `2n - 5` are the inner ones, and weights and
+//! labels go by their order.
+//!
+//! # Slices
+//!
+//! Every slice has to have exactly the length that goes with `n`:
+//!
+//! | Slice | Length | Function |
+//! |---|---|---|
+//! | triangles | `3(2n - 4)` | [`triangles_len`] |
+//! | labels | `3(2n - 5)` | [`labels_len`] |
+//! | weights | `2n - 5` | [`weights_len`] |
+//! | coordinates: b0, b1, b2 of each vertex | `3n` | [`coordinates_len`] |
+//! | drawn points: x, y of each | `2n` | [`points_len`] |
+//! | scratch | `24n` | [`scratch_len`] |
+//!
+//! Text and listing of [`job`] may have any length; [`JOB_BYTES`] is enough for both.
+//!
+//! Scratch is memory for the call to work in. It may hold anything before; after every answer it
+//! holds zeros, save that [`Refusal::VertexCount`] and [`Refusal::Length`] leave it as it was. The
+//! same scratch can serve one call after another.
+//!
+//! # What a refusal leaves
+//!
+//! Every slice keeps what it held, with two exceptions: scratch, as above, and [`Refusal::Raise`]
+//! of [`repair`], which leaves the weights with the raises made so far and writes their
+//! coordinates.
+//!
+//! # Threads, memory, stack
+//!
+//! Nothing is kept between calls: no call allocates, locks or has a state of its own, and the same
+//! input gives the same output. So calls may run on many threads at once, each on its own slices;
+//! slices that are only read, as the triangles, can be shared. A call on slices uses at most
+//! [`STACK`] bytes of stack, [`job`] at most [`JOB_STACK`].
+//!
+//! # The archive
+//!
+//! `tools/install target/packmap` in the repository makes `target/packmap/lib/libpackmap.a`, where
+//! the build looks for it. An archive elsewhere is found by the environment variable `PACKMAP_LIB`,
+//! the absolute path of its folder.
+
+#![deny(missing_docs, unsafe_op_in_unsafe_fn)]
+
+mod c;
+mod calls;
+mod lengths;
+mod refusal;
+
+pub use calls::{backward, check, forward, job, labels, repair, snap_points};
+pub use lengths::{
+    coordinates_len, labels_len, points_len, scratch_len, triangles_len, weights_len, JOB_BYTES,
+    JOB_STACK, LEAST_VERTICES, LIMIT, MOST_JOB_VERTICES, MOST_VERTICES, STACK,
+};
+pub use refusal::Refusal;
+
+/// The example in the README is run as a test.
+#[cfg(doctest)]
+#[doc = include_str!("../README.md")]
+struct Readme;

@@ -1,0 +1,74 @@
+//! The stack of up to 4,096 vertices: labels, both maps and repair, with answers known by hand.
+
+mod common;
+
+use common::*;
+
+#[test]
+fn maps_there_and_back() {
+    for n in [3, 4, 1000, 4096] {
+        let triangles = stack(n);
+        assert_eq!(check(n, &triangles), Ok(()));
+        assert_eq!(labels(n, &triangles), Ok([0, 1, 2].repeat(2 * n - 5)));
+        for seed in 0..3 {
+            let weights = signed(2 * n - 5, seed);
+            let coordinates = stack_coordinates(n, &weights);
+            let there = forward(n, &triangles, &weights);
+            assert_eq!(there.as_ref(), Ok(&coordinates));
+            assert_eq!(backward(n, &triangles, &coordinates), Ok(weights));
+        }
+    }
+}
+
+/// What repair makes of weights that are all 0. All areas are 0 and each raise is by 1: the first
+/// two triangles, after which the right ones are no longer flat; then each left one in turn, and
+/// the last. These are n - 1 raises, n being 4 or more.
+fn zero_raised(n: usize) -> Vec<i64> {
+    let raised = |t: usize| i64::from(t % 2 == 0 || t == 1);
+    (0..2 * n - 5).map(raised).collect()
+}
+
+#[test]
+fn repair_of_zero_weights() {
+    for n in [4, 1000, 4096] {
+        let raised = zero_raised(n);
+        let coordinates = stack_coordinates(n, &raised);
+        let answer = repair(n, &stack(n), &vec![0; 2 * n - 5]);
+        assert_eq!(answer, (Ok(n as u64 - 1), raised, coordinates));
+    }
+}
+
+#[test]
+fn job_of_zero_weights() {
+    for n in [4, 100, 256] {
+        let raised = zero_raised(n);
+        let total: i64 = raised.iter().sum();
+        let mut listing = format!("pack-map\t{n}\t{total}\t{}\n", n - 1);
+        let coordinates = stack_coordinates(n, &raised);
+        for (v, b) in coordinates.chunks_exact(3).enumerate() {
+            listing += &format!("v\t{v}\t{}\t{}\t{}\n", b[0], b[1], b[2]);
+        }
+        let text = text(n, &stack(n), &vec![0; 2 * n - 5]);
+        let wanted = Ok(listing.into_bytes());
+        assert_eq!(job(text.as_bytes(), packmap::JOB_BYTES), wanted);
+    }
+}
+
+/// No triangle is left flat or turned, the coordinates are those of the weights, a weight is raised
+/// at most once, and the count is that of the weights that were.
+#[test]
+fn repair_of_signed_weights() {
+    let n = 1000;
+    let triangles = stack(n);
+    for seed in 0..5 {
+        let weights = signed(2 * n - 5, seed);
+        let (answer, raised, coordinates) = repair(n, &triangles, &weights);
+        assert_eq!(coordinates, stack_coordinates(n, &raised));
+        let mut inner = triangles[3..].chunks_exact(3);
+        assert!(inner.all(|t| area(&coordinates, t) > 0));
+        let pairs = || weights.iter().zip(&raised);
+        assert!(pairs().all(|(old, new)| old <= new));
+        let changed = pairs().filter(|(old, new)| old != new).count();
+        assert_eq!(answer, Ok(changed as u64));
+    }
+}
