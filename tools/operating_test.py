@@ -50,7 +50,7 @@ class Refusals(unittest.TestCase):
 
     def test_every_cell_is_filled(self):
         for row in table("| No |"):
-            self.assertTrue(len(row) == 4 and all(row), row)
+            self.assertTrue(len(row) == 5 and all(row), row)
 
 
 class Jobs(unittest.TestCase):

@@ -10,6 +10,8 @@
 //!                                        counting instructions
 //!     bench jobs THREADS SECONDS         n and proved jobs per second on so many threads, a line
 //!                                        for each n of `jobs::SIZES`, each measured for SECONDS
+//!     bench worst N                      a line for each proved call that n has: its name, the longest
+//!                                        time over spheres and weights of all kinds, and on which
 //!
 //! SHAPE is random or nest, PROGRAM proved or second, ROW the first word of a row
 //! below, THREADS and SECONDS 1 to 1000. Fields of a line of times or of jobs are
@@ -20,6 +22,7 @@
 mod calls_proved;
 mod calls_second;
 mod jobs;
+mod worst;
 
 use second::spheres::{scramble, weights, Rng, Surface};
 use second::text::{Job, MOST_BYTES};
@@ -282,6 +285,7 @@ fn run(words: &[&str]) -> Option<Result<(), String>> {
             one(row, n, seed, program)
         }
         ["jobs", _, _] => jobs::run(positive(1)?, positive(2)? as u64),
+        ["worst", _] => worst::run(size(1)?),
         _ => return None,
     }
     Some(Ok(()))
@@ -299,7 +303,7 @@ fn main() -> ExitCode {
         None => {
             eprintln!("bench time N SEED\nbench mesh N SEED SHAPE");
             eprintln!("bench draw N SEED SHAPE PROGRAM\nbench one ROW N SEED PROGRAM");
-            eprintln!("bench jobs THREADS SECONDS");
+            eprintln!("bench jobs THREADS SECONDS\nbench worst N");
             ExitCode::from(2)
         }
     }
