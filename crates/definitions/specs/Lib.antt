@@ -6,6 +6,9 @@ pub mod Labels
 pub mod CheckedShells
 pub mod RefusalTable
 pub mod OwnCases
+pub mod MeshCases
+pub mod LabelCases
+pub mod MapCases
 pub mod Forward
 pub mod Backward
 pub mod Repair
