@@ -52,8 +52,8 @@ PowersOf2 =
       scratch = zeros 144;
     }
 
--- N = 10, vertex 0 at (1, 4, 5), 2 at (4, 1, 5), 5 at (2, 3, 5). Of colour 0, s of 0 to 5 is 4 - 3, of 5 to 4 it is 3, of 2 to 4 it is 1, of 3 to 4 it is 10; of
--- colour 1, s of 0 to 3 is 1, of 5 to 2 it is 2 - 4, of 2 to 3 it is 4; every other s is 0. The weights are 3, 1, 1, 1 - 3 + 2, -2 - 1, 4 - 1, 10 - 1 - 4.
+-- N = 10, vertex 0 at (1, 4, 5), 2 at (4, 1, 5), 5 at (2, 3, 5). The s of colour 0: 0 to 5 has 4 - 3, 5 to 4 has 3, 2 to 4 has 1, 3 to 4 has 10. The s of
+-- colour 1: 0 to 3 has 1, 5 to 2 has 2 - 4, 2 to 3 has 4. Every other s is 0. So the weights are 3, 1, 1, 1 - 3 + 2, -2 - 1, 4 - 1, 10 - 1 - 4.
 abbrev Signed : Type 0
 Signed =
     backwardCall 6 mixed (placed (pos 10) (pos 1) (pos 4) (pos 5) (pos 4) (pos 1) (pos 5) (pos 2) (pos 3) (pos 5)) (lent 7) (lent 144)
