@@ -36,6 +36,35 @@ SmallestFirst =
       scratch = zeros 144;
     }
 
+-- v0 = 1 and v1 = 0 are smaller than v2 = 2, and both stay.
+abbrev EndsStay : Type 0
+EndsStay =
+    labelsCall 3 (1 ∷ 2 ∷ 0 ∷ 2 ∷ 1 ∷ 0 ∷ []) (stale 3) (lent 72) ≡ record { answer = done tt; labels = 2 ∷ 0 ∷ 1 ∷ []; scratch = zeros 72 }
+
+-- ---- a shell with v0 = 5, v1 = 1 and v2 = 3: a long frontier
+
+-- v2 leaves with 5, 0, 2, 4, 1. 0 and 2 have chords to v1, so 4 leaves, with 2, 1; then 2 with 0, 1, and 0 with 5, 1.
+abbrev pub row : List ℕ
+row =
+    5 ∷ 3 ∷ 1
+    ∷ 5 ∷ 0 ∷ 3
+    ∷ 0 ∷ 2 ∷ 3
+    ∷ 2 ∷ 4 ∷ 3
+    ∷ 4 ∷ 1 ∷ 3
+    ∷ 4 ∷ 2 ∷ 1
+    ∷ 2 ∷ 0 ∷ 1
+    ∷ 0 ∷ 5 ∷ 1
+    ∷ []
+
+abbrev LongFrontier : Type 0
+LongFrontier =
+    labelsCall 6 row (stale 21) (lent 144)
+    ≡ record {
+      answer = done tt;
+      labels = 0 ∷ 1 ∷ 2 ∷ 0 ∷ 1 ∷ 2 ∷ 0 ∷ 1 ∷ 2 ∷ 0 ∷ 1 ∷ 2 ∷ 2 ∷ 0 ∷ 1 ∷ 2 ∷ 0 ∷ 1 ∷ 2 ∷ 0 ∷ 1 ∷ [];
+      scratch = zeros 144;
+    }
+
 -- ---- a shell with v0 = 4, v1 = 3 and v2 = 1
 
 -- The inner vertices: 5 is joined to v0 and v2, 0 to v1 and v2, and 2 to v0 and v1; they are joined to each other.
@@ -110,9 +139,9 @@ Colours = Coloured 0 (2 ∷ 4 ∷ 14 ∷ 16 ∷ 21 ∷ []) × Coloured 1 (1 ∷ 
 abbrev Rim : Type 0
 Rim = filter (rim mixed) (darts mixed) ≡ 0 ∷ 1 ∷ 2 ∷ 4 ∷ 11 ∷ 22 ∷ []
 
-pub label-cases : Every (SmallestFirst ∷ Choices ∷ Fans ∷ Steps ∷ Mixed ∷ Colours ∷ Rim ∷ [])
+pub label-cases : Every (SmallestFirst ∷ EndsStay ∷ LongFrontier ∷ Choices ∷ Fans ∷ Steps ∷ Mixed ∷ Colours ∷ Rim ∷ [])
 unfolding labelsCall outer start nextRemovable tip fan step peel filter points rim darts
-label-cases = refl and choices and fans and steps and refl and colours and refl and all-held
+label-cases = refl and refl and refl and choices and fans and steps and refl and colours and refl and all-held
   where
     choices : Choices
     choices = (refl, refl, refl)

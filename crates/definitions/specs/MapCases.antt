@@ -1,5 +1,5 @@
--- Cases of our own for "Forward" and "Backward", computed of the definitions: paths, walks, coordinates and weights of the shell `LabelCases.mixed`,
--- which has v0 = 4, v1 = 3 and v2 = 1. What each expects is worked out from the paper by hand; the comments say how. Assumes nothing.
+-- Cases of our own for "Forward" and "Backward", computed of the definitions: paths, walks, coordinates and weights of the shells of `LabelCases`:
+-- `mixed` has v0 = 4, v1 = 3 and v2 = 1, and `row` has v0 = 5, v1 = 1 and v2 = 3. What each expects is worked out from the paper by hand; the comments say how. Assumes nothing.
 use Prim.Native.Nat.{ℕ}
 use mathlib.Core.Path.{_≡_, refl}
 use mathlib.Core.List.{List, [], _∷_}
@@ -8,7 +8,7 @@ use Rattle.definitions.specs.Answers.{done}
 use Rattle.definitions.specs.Forward.{path, walk}
 use Rattle.definitions.specs.Refusals.{forwardCall, backwardCall}
 use Rattle.definitions.specs.CheckedShells.{Every, all-held, _and_, lent, zeros, minus}
-use Rattle.definitions.specs.LabelCases.{mixed, mixedLabels}
+use Rattle.definitions.specs.LabelCases.{row, mixed, mixedLabels}
 
 -- ---- paths and walks, as darts
 
@@ -52,6 +52,19 @@ PowersOf2 =
       scratch = zeros 144;
     }
 
+-- The same weights. The colour-0 path of 4 has three sides, by 2 and 0 to v0; the colour-1 paths are single sides to v1. The sides that the walks cross: 0-5
+-- triangle 1; 0-2 triangle 2; 2-4 triangle 3; 1-4 triangle 4; 1-2 triangles 3, 4, 5; 0-1 triangles 2 to 6. Vertex 0 has b0 = 2 + 4 + 8 + 16 + 32 and b1 = 1,
+-- vertex 2 has 4 + 8 + 16 and 2 + 1, vertex 4 has 8 and 4 + 2 + 1.
+abbrev LongPath : Type 0
+LongPath =
+    forwardCall 6 row (pos 1 ∷ pos 2 ∷ pos 4 ∷ pos 8 ∷ pos 16 ∷ pos 32 ∷ pos 64 ∷ []) (lent 18) (lent 144)
+    ≡ record {
+      answer = done tt;
+      coordinates =
+          pos 62 ∷ pos 1 ∷ pos 64 ∷ pos 0 ∷ pos 127 ∷ pos 0 ∷ pos 28 ∷ pos 3 ∷ pos 96 ∷ pos 0 ∷ pos 0 ∷ pos 127 ∷ pos 8 ∷ pos 7 ∷ pos 112 ∷ pos 127 ∷ pos 0 ∷ pos 0 ∷ [];
+      scratch = zeros 144;
+    }
+
 -- N = 10, vertex 0 at (1, 4, 5), 2 at (4, 1, 5), 5 at (2, 3, 5). The s of colour 0: 0 to 5 has 4 - 3, 5 to 4 has 3, 2 to 4 has 1, 3 to 4 has 10. The s of
 -- colour 1: 0 to 3 has 1, 5 to 2 has 2 - 4, 2 to 3 has 4. Every other s is 0. So the weights are 3, 1, 1, 1 - 3 + 2, -2 - 1, 4 - 1, 10 - 1 - 4.
 abbrev Signed : Type 0
@@ -63,9 +76,9 @@ Signed =
       scratch = zeros 144;
     }
 
-pub map-cases : Every (Paths0 ∷ Paths1 ∷ Walks ∷ PowersOf2 ∷ Signed ∷ [])
+pub map-cases : Every (Paths0 ∷ Paths1 ∷ Walks ∷ PowersOf2 ∷ LongPath ∷ Signed ∷ [])
 unfolding path walk forwardCall backwardCall
-map-cases = paths0 and paths1 and walks and refl and refl and all-held
+map-cases = paths0 and paths1 and walks and refl and refl and refl and all-held
   where
     paths0 : Paths0
     paths0 = (refl, refl, refl, refl, refl, refl)
