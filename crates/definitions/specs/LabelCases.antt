@@ -141,8 +141,18 @@ Rim = filter (rim mixed) (darts mixed) ≡ 0 ∷ 1 ∷ 2 ∷ 4 ∷ 11 ∷ 22 ∷
 
 pub label-cases : Every (SmallestFirst ∷ EndsStay ∷ LongFrontier ∷ Choices ∷ Fans ∷ Steps ∷ Mixed ∷ Colours ∷ Rim ∷ [])
 unfolding labelsCall outer start nextRemovable tip fan step peel filter points rim darts
-label-cases = refl and refl and refl and choices and fans and steps and refl and colours and refl and all-held
+label-cases =
+    smallestFirst and endsStay and longFrontier and choices and fans and steps and mixed and colours and rim and all-held
   where
+    smallestFirst : SmallestFirst
+    smallestFirst = refl
+
+    endsStay : EndsStay
+    endsStay = refl
+
+    longFrontier : LongFrontier
+    longFrontier = refl
+
     choices : Choices
     choices = (refl, refl, refl)
 
@@ -152,5 +162,11 @@ label-cases = refl and refl and refl and choices and fans and steps and refl and
     steps : Steps
     steps = (refl, refl)
 
+    mixed : Mixed
+    mixed = refl
+
     colours : Colours
     colours = (refl, refl, refl)
+
+    rim : Rim
+    rim = refl

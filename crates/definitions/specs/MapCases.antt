@@ -78,7 +78,8 @@ Signed =
 
 pub map-cases : Every (Paths0 ∷ Paths1 ∷ Walks ∷ PowersOf2 ∷ LongPath ∷ Signed ∷ [])
 unfolding path walk forwardCall backwardCall
-map-cases = paths0 and paths1 and walks and refl and refl and refl and all-held
+map-cases =
+    paths0 and paths1 and walks and powersOf2 and longPath and signed and all-held
   where
     paths0 : Paths0
     paths0 = (refl, refl, refl, refl, refl, refl)
@@ -88,3 +89,12 @@ map-cases = paths0 and paths1 and walks and refl and refl and refl and all-held
 
     walks : Walks
     walks = (refl, refl, refl, refl, refl)
+
+    powersOf2 : PowersOf2
+    powersOf2 = refl
+
+    longPath : LongPath
+    longPath = refl
+
+    signed : Signed
+    signed = refl

@@ -53,8 +53,8 @@ Sides =
     × (map (opp tetra) (darts tetra) ≡ 5 ∷ 7 ∷ 9 ∷ 11 ∷ 8 ∷ 0 ∷ 10 ∷ 1 ∷ 4 ∷ 2 ∷ 6 ∷ 3 ∷ [])
 
 -- Darts 4, 6 and 11 leave vertex 3. From (3,2,0) the side of 0 and 3 leads to (3,0,1), and that of 1 and 3 to (3,1,2).
-abbrev Rotations : Type 0
-Rotations = (outgoing tetra 3 ≡ 4 ∷ 6 ∷ 11 ∷ []) × (rotations tetra 3 4 ≡ 4 ∷ 11 ∷ 6 ∷ [])
+abbrev Rotation : Type 0
+Rotation = (outgoing tetra 3 ≡ 4 ∷ 6 ∷ 11 ∷ []) × (rotations tetra 3 4 ≡ 4 ∷ 11 ∷ 6 ∷ [])
 
 -- Two pieces of two triangles each, in turn; and five triangles about vertex 0, each joined to the next, of which the last is four steps away.
 abbrev Pieces : Type 0
@@ -120,14 +120,18 @@ LastVertex = Refuses 9 (threeRings 8 0) 7
 
 pub mesh-cases :
     Every
-    (Lists ∷ Lengths ∷ Places ∷ Sides ∷ Rotations ∷ Pieces ∷ VertexNumbers ∷ VertexTwice ∷ FourBeforeFive ∷ OneSideTwice ∷ Untouched
+    (Lists ∷ Lengths ∷ Places ∷ Sides ∷ Rotation ∷ Pieces ∷ VertexNumbers ∷ VertexTwice ∷ FourBeforeFive ∷ OneSideTwice ∷ Untouched
     ∷ FirstVertex ∷ LastVertex ∷ [])
 unfolding range upto firstOr first minimum init total totalAbs corners darts triangles inner tip opp outgoing rotations component checkCall
 mesh-cases =
-    lists and refl and places and sides and rings and pieces and numbers and twice and refl and refl and refl and refl and refl and all-held
+    lists and lengths and places and sides and rotation and pieces
+    and vertexNumbers and vertexTwice and fourBeforeFive and oneSideTwice and untouched and firstVertex and lastVertex and all-held
   where
     lists : Lists
     lists = (refl, refl, refl, refl, refl, refl, refl, refl, refl, refl)
+
+    lengths : Lengths
+    lengths = refl
 
     places : Places
     places = (refl, refl, refl, refl)
@@ -135,14 +139,29 @@ mesh-cases =
     sides : Sides
     sides = (refl, refl)
 
-    rings : Rotations
-    rings = (refl, refl)
+    rotation : Rotation
+    rotation = (refl, refl)
 
     pieces : Pieces
     pieces = (refl, refl)
 
-    numbers : VertexNumbers
-    numbers = (refl, refl)
+    vertexNumbers : VertexNumbers
+    vertexNumbers = (refl, refl)
 
-    twice : VertexTwice
-    twice = (refl, refl, refl)
+    vertexTwice : VertexTwice
+    vertexTwice = (refl, refl, refl)
+
+    fourBeforeFive : FourBeforeFive
+    fourBeforeFive = refl
+
+    oneSideTwice : OneSideTwice
+    oneSideTwice = refl
+
+    untouched : Untouched
+    untouched = refl
+
+    firstVertex : FirstVertex
+    firstVertex = refl
+
+    lastVertex : LastVertex
+    lastVertex = refl
