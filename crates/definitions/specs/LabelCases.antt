@@ -36,7 +36,7 @@ SmallestFirst =
       scratch = zeros 144;
     }
 
--- v0 = 1 and v1 = 0 are smaller than v2 = 2, and both stay.
+-- v0 = 1 and v1 = 0 are smaller than v2 = 2, and both stay: 2 at v2, 0 at v0, 1 at v1.
 abbrev EndsStay : Type 0
 EndsStay =
     labelsCall 3 (1 ∷ 2 ∷ 0 ∷ 2 ∷ 1 ∷ 0 ∷ []) (stale 3) (lent 72) ≡ record { answer = done tt; labels = 2 ∷ 0 ∷ 1 ∷ []; scratch = zeros 72 }
@@ -44,8 +44,8 @@ EndsStay =
 -- ---- a shell with v0 = 5, v1 = 1 and v2 = 3: a long frontier
 
 -- v2 leaves with 5, 0, 2, 4, 1. 0 and 2 have chords to v1, so 4 leaves, with 2, 1; then 2 with 0, 1, and 0 with 5, 1.
-abbrev pub row : List ℕ
-row =
+abbrev pub chain : List ℕ
+chain =
     5 ∷ 3 ∷ 1
     ∷ 5 ∷ 0 ∷ 3
     ∷ 0 ∷ 2 ∷ 3
@@ -58,7 +58,7 @@ row =
 
 abbrev LongFrontier : Type 0
 LongFrontier =
-    labelsCall 6 row (stale 21) (lent 144)
+    labelsCall 6 chain (stale 21) (lent 144)
     ≡ record {
       answer = done tt;
       labels = 0 ∷ 1 ∷ 2 ∷ 0 ∷ 1 ∷ 2 ∷ 0 ∷ 1 ∷ 2 ∷ 0 ∷ 1 ∷ 2 ∷ 2 ∷ 0 ∷ 1 ∷ 2 ∷ 0 ∷ 1 ∷ 2 ∷ 0 ∷ 1 ∷ [];
@@ -80,7 +80,7 @@ mixed =
     ∷ 2 ∷ 4 ∷ 3
     ∷ []
 
--- The peeling, state by state, with the darts that lead from each vertex to its u1 .. uk. v2 leaves with 4, 5, 0, 3.
+-- The peeling, state by state; `passed` has the darts from each vertex that left to its u1 .. uk, but for uk. First v2 leaves, with 4, 5, 0, 3.
 abbrev begun : Peeling
 begun = record { frontier = 4 ∷ 1 ∷ 3 ∷ []; removed = []; passed = [] }
 
@@ -99,7 +99,7 @@ threeLeft = record { frontier = 4 ∷ 2 ∷ 3 ∷ []; removed = 5 ∷ 0 ∷ 1 �
 abbrev ended : Peeling
 ended = record { frontier = 4 ∷ 3 ∷ []; removed = 2 ∷ 5 ∷ 0 ∷ 1 ∷ []; passed = 4 ∷ 8 ∷ 9 ∷ 16 ∷ 20 ∷ 14 ∷ 21 ∷ [] }
 
--- the outer vertices, and who can leave in each state
+-- v0, v1 and v2, and the vertex that leaves in each state
 abbrev Choices : Type 0
 Choices =
     (map (outer mixed) (0 ∷ 1 ∷ 2 ∷ []) ≡ 4 ∷ 3 ∷ 1 ∷ [])
@@ -135,7 +135,7 @@ Coloured c ds = filter (points mixed mixedLabels c) (darts mixed) ≡ ds
 abbrev Colours : Type 0
 Colours = Coloured 0 (2 ∷ 4 ∷ 14 ∷ 16 ∷ 21 ∷ []) × Coloured 1 (1 ∷ 10 ∷ 17 ∷ 18 ∷ 22 ∷ []) × Coloured 2 (0 ∷ 3 ∷ 7 ∷ 11 ∷ 15 ∷ [])
 
--- the rim sides, from the outer triangle and from their others
+-- the rim sides, from the outer triangle (darts 0, 1, 2) and from the inner ones (1 to 4, 3 to 1, 4 to 3)
 abbrev Rim : Type 0
 Rim = filter (rim mixed) (darts mixed) ≡ 0 ∷ 1 ∷ 2 ∷ 4 ∷ 11 ∷ 22 ∷ []
 

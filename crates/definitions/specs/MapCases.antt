@@ -1,5 +1,6 @@
--- Cases of our own for "Forward" and "Backward", computed of the definitions: paths, walks, coordinates and weights of the shells of `LabelCases`:
--- `mixed` has v0 = 4, v1 = 3 and v2 = 1, and `row` has v0 = 5, v1 = 1 and v2 = 3. What each expects is worked out from the paper by hand; the comments say how. Assumes nothing.
+-- Cases of our own for "Forward" and "Backward", computed of the definitions: paths, walks, coordinates and weights of two shells of `LabelCases`:
+-- `mixed` has v0 = 4, v1 = 3 and v2 = 1, and `chain` has v0 = 5, v1 = 1 and v2 = 3. What each expects is worked out from the paper by hand; the comments
+-- say how. Assumes nothing.
 use Prim.Native.Nat.{ℕ}
 use mathlib.Core.Path.{_≡_, refl}
 use mathlib.Core.List.{List, [], _∷_}
@@ -8,7 +9,7 @@ use Rattle.definitions.specs.Answers.{done}
 use Rattle.definitions.specs.Forward.{path, walk}
 use Rattle.definitions.specs.Refusals.{forwardCall, backwardCall}
 use Rattle.definitions.specs.CheckedShells.{Every, all-held, _and_, lent, zeros, minus}
-use Rattle.definitions.specs.LabelCases.{row, mixed, mixedLabels}
+use Rattle.definitions.specs.LabelCases.{chain, mixed, mixedLabels}
 
 -- ---- paths and walks, as darts
 
@@ -57,11 +58,12 @@ PowersOf2 =
 -- vertex 2 has 4 + 8 + 16 and 2 + 1, vertex 4 has 8 and 4 + 2 + 1.
 abbrev LongPath : Type 0
 LongPath =
-    forwardCall 6 row (pos 1 ∷ pos 2 ∷ pos 4 ∷ pos 8 ∷ pos 16 ∷ pos 32 ∷ pos 64 ∷ []) (lent 18) (lent 144)
+    forwardCall 6 chain (pos 1 ∷ pos 2 ∷ pos 4 ∷ pos 8 ∷ pos 16 ∷ pos 32 ∷ pos 64 ∷ []) (lent 18) (lent 144)
     ≡ record {
       answer = done tt;
       coordinates =
-          pos 62 ∷ pos 1 ∷ pos 64 ∷ pos 0 ∷ pos 127 ∷ pos 0 ∷ pos 28 ∷ pos 3 ∷ pos 96 ∷ pos 0 ∷ pos 0 ∷ pos 127 ∷ pos 8 ∷ pos 7 ∷ pos 112 ∷ pos 127 ∷ pos 0 ∷ pos 0 ∷ [];
+          pos 62 ∷ pos 1 ∷ pos 64 ∷ pos 0 ∷ pos 127 ∷ pos 0 ∷ pos 28 ∷ pos 3 ∷ pos 96 ∷ pos 0 ∷ pos 0 ∷ pos 127 ∷ pos 8 ∷ pos 7 ∷ pos 112
+          ∷ pos 127 ∷ pos 0 ∷ pos 0 ∷ [];
       scratch = zeros 144;
     }
 

@@ -56,11 +56,15 @@ Sides =
 abbrev Rotation : Type 0
 Rotation = (outgoing tetra 3 ≡ 4 ∷ 6 ∷ 11 ∷ []) × (rotations tetra 3 4 ≡ 4 ∷ 11 ∷ 6 ∷ [])
 
--- Two pieces of two triangles each, in turn; and five triangles about vertex 0, each joined to the next, of which the last is four steps away.
+-- Two pieces of two triangles each, listed in turn; five triangles about vertex 0, each joined to the next, of which the last is four steps away; and
+-- the tetra with the sides of its outer triangle listed first, second and third in the inner ones.
 abbrev Pieces : Type 0
 Pieces =
     (component (0 ∷ 2 ∷ 1 ∷ 3 ∷ 5 ∷ 4 ∷ 0 ∷ 1 ∷ 2 ∷ 3 ∷ 4 ∷ 5 ∷ []) ≡ 0 ∷ 2 ∷ [])
     × (component (0 ∷ 1 ∷ 2 ∷ 0 ∷ 2 ∷ 3 ∷ 0 ∷ 3 ∷ 4 ∷ 0 ∷ 4 ∷ 5 ∷ 0 ∷ 5 ∷ 6 ∷ []) ≡ 0 ∷ 1 ∷ 2 ∷ 3 ∷ 4 ∷ [])
+    × (component (0 ∷ 2 ∷ 1 ∷ 2 ∷ 0 ∷ 3 ∷ 1 ∷ 2 ∷ 3 ∷ 0 ∷ 1 ∷ 3 ∷ []) ≡ 0 ∷ 1 ∷ 2 ∷ 3 ∷ [])
+    × (component (0 ∷ 2 ∷ 1 ∷ 3 ∷ 2 ∷ 0 ∷ 3 ∷ 1 ∷ 2 ∷ 3 ∷ 0 ∷ 1 ∷ []) ≡ 0 ∷ 1 ∷ 2 ∷ 3 ∷ [])
+    × (component (0 ∷ 2 ∷ 1 ∷ 0 ∷ 3 ∷ 2 ∷ 2 ∷ 3 ∷ 1 ∷ 1 ∷ 3 ∷ 0 ∷ []) ≡ 0 ∷ 1 ∷ 2 ∷ 3 ∷ [])
 
 -- ---- rows 3 to 8
 
@@ -143,7 +147,7 @@ mesh-cases =
     rotation = (refl, refl)
 
     pieces : Pieces
-    pieces = (refl, refl)
+    pieces = (refl, refl, refl, refl, refl)
 
     vertexNumbers : VertexNumbers
     vertexNumbers = (refl, refl)
