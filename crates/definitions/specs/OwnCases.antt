@@ -9,58 +9,12 @@ use lib.IntN.{pos}
 use lib.Ieee.{Float, ofBits, binary64}
 use Rattle.definitions.specs.Answers.{done, refused, numbered, stoppedAfter}
 use Rattle.definitions.specs.Repair.{limit}
-use Rattle.definitions.specs.Refusals.{checkCall, labelsCall, forwardCall, backwardCall, repairCall, snapCall}
+use Rattle.definitions.specs.Refusals.{forwardCall, backwardCall, repairCall, snapCall}
 use Rattle.definitions.specs.Job.{bytes, prints}
-use Rattle.definitions.specs.CheckedShells.{Every, all-held, _and_, tetra, stale, lent, zeros, minus, tetraAt}
+use Rattle.definitions.specs.CheckedShells.{Every, all-held, _and_, tetra, lent, zeros, minus, tetraAt}
 use Rattle.definitions.specs.RefusalTable.{tetraLines}
 
--- ---- labels
-
--- v2 = 2 leaves first and puts 3 and 5 on the frontier 0, 3, 5, 1, around 4. Both can leave, and 3 is the smaller: it passes (3, 0, 4) and
--- (3, 4, 5). Then 4 has a chord to 1, so 5 leaves, and 4 last. With 5 first, (3, 4, 5) would have the labels 0, 1, 2.
-abbrev six : List ℕ
-six =
-    0 ∷ 2 ∷ 1
-    ∷ 0 ∷ 3 ∷ 2
-    ∷ 3 ∷ 5 ∷ 2
-    ∷ 5 ∷ 1 ∷ 2
-    ∷ 3 ∷ 0 ∷ 4
-    ∷ 3 ∷ 4 ∷ 5
-    ∷ 4 ∷ 1 ∷ 5
-    ∷ 0 ∷ 1 ∷ 4
-    ∷ []
-
-abbrev SmallestFirst : Type 0
-SmallestFirst =
-    labelsCall 6 six (stale 21) (lent 144)
-    ≡ record {
-      answer = done tt;
-      labels = 0 ∷ 1 ∷ 2 ∷ 0 ∷ 1 ∷ 2 ∷ 0 ∷ 1 ∷ 2 ∷ 2 ∷ 0 ∷ 1 ∷ 2 ∷ 0 ∷ 1 ∷ 0 ∷ 1 ∷ 2 ∷ 0 ∷ 1 ∷ 2 ∷ [];
-      scratch = zeros 144;
-    }
-
 -- ---- the order of the rows
-
--- a side twice in the first two triangles and a vertex twice in the third: 4 is asked before 5
-abbrev FourBeforeFive : Type 0
-FourBeforeFive =
-    checkCall 4 (0 ∷ 2 ∷ 1 ∷ 0 ∷ 2 ∷ 1 ∷ 0 ∷ 0 ∷ 1 ∷ 1 ∷ 2 ∷ 3 ∷ []) (lent 96)
-    ≡ record { answer = refused (numbered 4); scratch = zeros 96 }
-
--- the torus on 7 vertices has the 14 triangles of n = 9, and no triangle touches 7 and 8
-abbrev Untouched : Type 0
-Untouched =
-    checkCall 9
-    (0 ∷ 1 ∷ 3 ∷ 0 ∷ 3 ∷ 2
-    ∷ 1 ∷ 2 ∷ 4 ∷ 1 ∷ 4 ∷ 3
-    ∷ 2 ∷ 3 ∷ 5 ∷ 2 ∷ 5 ∷ 4
-    ∷ 3 ∷ 4 ∷ 6 ∷ 3 ∷ 6 ∷ 5
-    ∷ 4 ∷ 5 ∷ 0 ∷ 4 ∷ 0 ∷ 6
-    ∷ 5 ∷ 6 ∷ 1 ∷ 5 ∷ 1 ∷ 0
-    ∷ 6 ∷ 0 ∷ 2 ∷ 6 ∷ 2 ∷ 1
-    ∷ [])
-    (lent 216)
-    ≡ record { answer = refused (numbered 7); scratch = zeros 216 }
 
 -- coordinates that break 10, 11 and 12 at once: 10 is asked first; and weights that 9 refuses are refused last
 abbrev TenFirst : Type 0
@@ -170,10 +124,10 @@ Texts =
     ∷ Prints "pack-map\t3\n" [] "t\t0\t2\t1\nt\t0\t1\t2\nw\t0\n" "pack-map\t3\t1\t1\nv\t0\t1\t0\t0\nv\t1\t0\t1\t0\nv\t2\t0\t0\t1\n"
     ∷ []
 
-pub choices : Every (SmallestFirst ∷ FourBeforeFive ∷ Untouched ∷ TenFirst ∷ NineLast ∷ LeastWeight ∷ ExactlyLimit ∷ CountSoFar ∷ Edges
+pub choices : Every (TenFirst ∷ NineLast ∷ LeastWeight ∷ ExactlyLimit ∷ CountSoFar ∷ Edges
     ∷ [])
-unfolding checkCall labelsCall forwardCall backwardCall repairCall snapCall ofBits
-choices = refl and refl and refl and refl and refl and refl and refl and refl and edges and all-held
+unfolding forwardCall backwardCall repairCall snapCall ofBits
+choices = refl and refl and refl and refl and refl and edges and all-held
   where
     edges : Edges
     edges = (refl, refl)
