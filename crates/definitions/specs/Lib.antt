@@ -1,11 +1,16 @@
 -- What document 01 says, a file for each of its sections, in its order. `Lists` has the few functions on lists that they share.
--- `CheckedShells`, `RefusalTable` and `OwnCases` try the definitions on the paper's checked shells, on its table of refusals and on cases of our own.
+-- `CheckedShells` and `RefusalTable` try the definitions on the paper's checked shells and on its table of refusals; `RepairCases`, `PointCases`,
+-- `RefusalCases`, `TextCases` and `OwnCases` try them on cases of our own.
 pub mod Lists
 pub mod Mesh
 pub mod Labels
 pub mod CheckedShells
 pub mod RefusalTable
 pub mod OwnCases
+pub mod RefusalCases
+pub mod RepairCases
+pub mod PointCases
+pub mod TextCases
 pub mod Forward
 pub mod Backward
 pub mod Repair
