@@ -1,10 +1,10 @@
 -- Cases of our own for "Refusals and what stays", computed of the definitions: the limits of the rows, the order in which they are asked, the lengths of
 -- lent slices, what a refused call leaves, and what is accepted. What each expects is worked out from the paper by hand; the comments say how. Assumes
 -- nothing.
-use Prim.Native.Nat.{ℕ, _+_, _^_}
+use Prim.Native.Nat.{ℕ, _+_, _-_, _^_}
 use mathlib.Core.Path.{_≡_, refl}
 use mathlib.Core.Bool.{true≢false}
-use mathlib.Core.List.{List, [], _∷_, _++_}
+use mathlib.Core.List.{List, [], _∷_, _++_, map}
 use mathlib.Core.Option.{Option·some-ne-none}
 use native.Mathlib.Omega.{arith}
 use lib.ListN.{replicate}
@@ -14,7 +14,7 @@ use Rattle.definitions.specs.Answers.{done, refused, numbered, stoppedAf
 use Rattle.definitions.specs.Refusals.{checkCall, labelsCall, forwardCall, backwardCall, repairCall, snapCall}
 use Rattle.definitions.specs.Refusals.{Accepted, AcceptedWeights, AcceptedCoordinates}
 use Rattle.definitions.specs.CheckedShells.{Every, all-held, _and_, pair, tetra, five, stale, lent, zeros, minus, tetraAt}
-use Rattle.definitions.specs.RefusalTable.{L}
+use Rattle.definitions.specs.RefusalTable.{torus, L}
 
 -- Lent slices for n = 3: 6 vertex numbers, 3 labels, 1 weight, 9 coordinates, 72 words of scratch, 6 shares. For n = 4: 12, 9, 3, 12, 96 and 8.
 
@@ -97,13 +97,14 @@ MeshOrder =
 abbrev twice : List ℕ
 twice = 0 ∷ 2 ∷ 1 ∷ 0 ∷ 2 ∷ 1 ∷ []
 
--- The mesh is looked at before weights and coordinates, which are past L here: 5.
+-- The mesh is looked at before weights and coordinates, which are past L but for the last case, whose weight would be raised: 5.
 abbrev MeshFirst : Type 0
 MeshFirst =
     LabelsRefuses 3 twice (stale 3) (lent 72) 5 (zeros 72)
     × ForwardRefuses 3 twice (pos (L + 1) ∷ []) (lent 9) (lent 72) 5 (zeros 72)
     × BackwardRefuses 3 twice (replicate 9 (pos (L + 1))) (lent 1) (lent 72) 5 (zeros 72)
     × RepairRefuses 3 twice (pos (L + 1) ∷ []) (lent 9) (lent 72) 5 (zeros 72)
+    × RepairRefuses 3 twice (pos 0 ∷ []) (lent 9) (lent 72) 5 (zeros 72)
 
 -- coordinates of the tetra that backward refuses
 abbrev Backs : List ℤ → ℕ → Type 0
@@ -145,7 +146,7 @@ SnapOrder =
 -- ---- 9 and 10
 
 -- The absolute values are summed: -L alone, and L - 1 with -1, are L, which passes; L with -1 is past it. The least 64-bit number has no absolute value
--- among the 64-bit numbers.
+-- among the 64-bit numbers. L - 3 with -9 is L + 6; repair refuses it too, though a raise of -9 to 1 would bring the sum below L.
 abbrev WeightLimit : Type 0
 WeightLimit =
     (forwardCall 4 tetra (minus 1_073_741_823 ∷ pos 0 ∷ pos 0 ∷ []) (lent 12) (lent 96)
@@ -154,7 +155,7 @@ WeightLimit =
     ≡ record { answer = done tt; coordinates = tetraAt (pos 1_073_741_821) (pos 1_073_741_822) (pos 0) (minus 1); scratch = zeros 96 })
     × ForwardRefuses 4 tetra (pos 1_073_741_823 ∷ pos 0 ∷ minus 1 ∷ []) (lent 12) (lent 96) 9 (zeros 96)
     × ForwardRefuses 4 tetra (minus (2 ^ 63) ∷ pos 0 ∷ pos 0 ∷ []) (lent 12) (lent 96) 9 (zeros 96)
-    × RepairRefuses 4 tetra (pos 1_073_741_823 ∷ pos 0 ∷ minus 1 ∷ []) (lent 12) (lent 96) 9 (zeros 96)
+    × RepairRefuses 4 tetra (pos 1_073_741_820 ∷ minus 9 ∷ pos 0 ∷ []) (lent 12) (lent 96) 9 (zeros 96)
 
 -- L and -L pass: they are N and b1 of vertex 3, so the first weight. -L - 1 does not, at the first place and at the last.
 abbrev CoordinateLimit : Type 0
@@ -206,11 +207,12 @@ Numbers =
 
 -- ---- what is accepted
 
--- The tetra is. Not two vertices with the 0 triangles that they ask for; not the tetra without its last triangle; not one triangle twice.
+-- The tetra is. No vertices and no triangles break 1 alone, the torus on 7 vertices, which has 14 triangles and not 10, 2 alone, and one triangle twice
+-- breaks 5.
 abbrev Meshes : Type 0
-Meshes = Accepted 4 tetra × (¬ Accepted 2 []) × (¬ Accepted 4 (0 ∷ 2 ∷ 1 ∷ 0 ∷ 3 ∷ 2 ∷ 3 ∷ 1 ∷ 2 ∷ [])) × (¬ Accepted 3 twice)
+Meshes = Accepted 4 tetra × (¬ Accepted 0 []) × (¬ Accepted 7 (map (λ v. v - 4) torus)) × (¬ Accepted 3 twice)
 
--- Weights of the tetra that sum to L are. Not two of them; not with one more.
+-- Three weights of the tetra whose absolute values sum to L are. Two weights are not, and a sum of L + 1 is not.
 abbrev Weights : Type 0
 Weights =
     AcceptedWeights 4 (pos 1_073_741_822 ∷ pos 0 ∷ minus 1 ∷ [])
@@ -220,10 +222,11 @@ Weights =
 abbrev AcceptedAt : List ℤ → Type 0
 AcceptedAt bs = AcceptedCoordinates 4 tetra (0 ∷ 1 ∷ 2 ∷ 0 ∷ 1 ∷ 2 ∷ 0 ∷ 1 ∷ 2 ∷ []) bs
 
--- Those of P5 are. Not with a number after them; not with b0 of vertex 3 at L + 1; not the examples of 11 and 12; not what only 9 refuses above.
+-- Those of the weights L, 0, 0 are, though they sum to 4L themselves. Not those of P5 with a number after them; not with b0 of vertex 3 at L + 1, which
+-- breaks 10 (and 9: the second weight is b0); not the examples of 11 and 12; and not N = L with vertex 3 at (L, -L, L), which breaks 9 alone.
 abbrev Coordinates : Type 0
 Coordinates =
-    AcceptedAt (tetraAt (pos 10) (pos 5) (pos 3) (pos 2))
+    AcceptedAt (tetraAt (pos L) (pos L) (pos 0) (pos 0))
     × (¬ AcceptedAt (tetraAt (pos 10) (pos 5) (pos 3) (pos 2) ++ (pos 0 ∷ [])))
     × (¬ AcceptedAt (tetraAt (pos L) (pos 0) (pos 1_073_741_824) (minus 1)))
     × (¬ AcceptedAt (corner0 ++ at (pos 1) (pos 8) (pos 0) ++ corner2 ++ at (pos 3) (pos 5) (pos 1)))
@@ -249,7 +252,7 @@ refusal-cases =
     mesh-order = (refl, refl, refl)
 
     mesh-first : MeshFirst
-    mesh-first = (refl, refl, refl, refl)
+    mesh-first = (refl, refl, refl, refl, refl)
 
     backward-order : BackwardOrder
     backward-order = (refl, refl, refl, refl)
