@@ -1,8 +1,7 @@
 -- Cases of our own for "Drawn points", computed of the definitions: scales, shares at the edges, and the order in which shares are looked at. What each
 -- expects is worked out from the paper by hand; the comments say how. Assumes nothing.
-use Prim.Native.Nat.{ℕ}
 use mathlib.Core.Path.{_≡_, refl}
-use mathlib.Core.List.{List, [], _∷_, map}
+use mathlib.Core.List.{[], _∷_, map}
 use lib.ListN.{replicate}
 use lib.IntN.{pos}
 use lib.Ieee.{Float, ofBits, binary64}
@@ -114,13 +113,19 @@ ShareByShare =
 
 pub point-cases : Every (Scales ∷ Edges ∷ Downwards ∷ Outside ∷ ShareByShare ∷ [])
 unfolding snap snapCall ofBits
-point-cases = scales and edges and refl and refl and share-by-share and all-held
+point-cases = scales and edges and downwards and outside and share-by-share and all-held
   where
     scales : Scales
     scales = (refl, refl)
 
     edges : Edges
     edges = (refl, refl)
+
+    downwards : Downwards
+    downwards = refl
+
+    outside : Outside
+    outside = refl
 
     share-by-share : ShareByShare
     share-by-share = (refl, refl, refl, refl, refl, refl, refl)

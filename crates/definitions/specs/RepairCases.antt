@@ -118,8 +118,8 @@ CountSoFar =
     × (repair 4 tetra tetraLabels (pos 0 ∷ pos 0 ∷ minus 400_000_000 ∷ [])
     ≡ record { ending = stopped; weights = pos 400_000_001 ∷ pos 0 ∷ minus 400_000_000 ∷ []; raises = 1 ∷ [] })
 
--- Only triangle 2, of weight 0, is bad. Its m is 0 - b = 0, since N is 1 more than the first weight. A raise to the sum L = 1,073,741,823 is made; one to
--- L + 1 is refused.
+-- Only triangle 2, of weight 0, is bad. Its m is 0 - b = 0: the other two, a - N and c - N, are below 0. A raise to the sum L = 1,073,741,823 is made;
+-- one to L + 1 is refused.
 abbrev RaiseToLimit : Type 0
 RaiseToLimit =
     (repairCall 4 tetra (pos 1_073_741_821 ∷ pos 0 ∷ pos 1 ∷ []) (lent 12) (lent 96)
@@ -149,10 +149,19 @@ Changed =
 
 pub repair-cases : Every (Areas ∷ Bad ∷ Raises ∷ Added ∷ LowestFirst ∷ CountSoFar ∷ RaiseToLimit ∷ Changed ∷ [])
 unfolding area bad raise addTo repair repairCall changed
-repair-cases = areas and refl and refl and refl and lowest-first and count-so-far and raise-to-limit and changes and all-held
+repair-cases = areas and bads and raises and added and lowest-first and count-so-far and raise-to-limit and changes and all-held
   where
     areas : Areas
     areas = (refl, refl)
+
+    bads : Bad
+    bads = refl
+
+    raises : Raises
+    raises = refl
+
+    added : Added
+    added = refl
 
     lowest-first : LowestFirst
     lowest-first = (refl, refl)

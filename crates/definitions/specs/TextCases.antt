@@ -1,9 +1,8 @@
 -- Cases of our own for "Job text and packmap", computed of the definitions: the layout of lines, numbers, the order of refusals, the listing, and the number
 -- and the buffer that the host service gets. What each expects is worked out from the paper by hand; the comments say how. Assumes nothing.
-use Prim.Native.Nat.{ℕ}
 use Prim.Native.String.{String}
 use mathlib.Core.Path.{_≡_, refl}
-use mathlib.Core.List.{List, [], _∷_, _++_}
+use mathlib.Core.List.{[], _∷_, _++_}
 use lib.ListN.{replicate}
 use lib.Ieee.{Float, ofBits, binary64}
 use Rattle.definitions.specs.Answers.{numbered, stoppedAfter, shareOutside, lineBroken}
@@ -158,7 +157,7 @@ Told =
 
 -- ---- the listing
 
--- The tetra's area numbers are the weights times N, so none is raised here: N = 216, and below 0 N = -133. Vertex 3 has the weights b, a, c.
+-- The tetra's area numbers are the weights times N, so none is raised here: N = 216, and below 0 N = -133. With the weights a, b, c vertex 3 is at (b, a, c).
 -- n = 3 with weight 0: the one triangle is flat, m is 0, and N is 1 after the raise.
 abbrev Listings : Type 0
 Listings =
@@ -184,7 +183,7 @@ Hosts =
 pub text-cases :
     Every (Heads ∷ Vertices ∷ Triangles ∷ Weights ∷ LineNumbers ∷ LongestText ∷ Order ∷ Told ∷ Listings ∷ Hosts ∷ [])
 unfolding prints toldWithText lineOf hostCall ofBits
-text-cases = heads and vertices and triangles and weights and line-numbers and refl and order and told and listings and hosts and all-held
+text-cases = heads and vertices and triangles and weights and line-numbers and longest-text and order and told and listings and hosts and all-held
   where
     heads : Heads
     heads = (refl, refl, refl, refl, refl, refl, refl, refl, refl, refl, refl, refl, refl)
@@ -200,6 +199,9 @@ text-cases = heads and vertices and triangles and weights and line-numbers and r
 
     line-numbers : LineNumbers
     line-numbers = (refl, refl, refl, refl, refl, refl, refl, refl, refl, refl, refl)
+
+    longest-text : LongestText
+    longest-text = refl
 
     order : Order
     order = (refl, refl, refl, refl, refl)
