@@ -31,7 +31,7 @@ fiveParts = ofBits binary64 0x3fc4_0000_0000_0000
 abbrev minusFiveParts : Float
 minusFiveParts = ofBits binary64 0xbfc4_0000_0000_0000
 
--- the least above 0, the next below -2, 2.5, -2.5, and the largest of all
+-- the least above 0, the next below -2, 2.5, -2.5, 4, and the largest of all
 abbrev justAbove : Float
 justAbove = ofBits binary64 0x0000_0000_0000_0001
 
@@ -43,6 +43,9 @@ twoAndHalf = ofBits binary64 0x4004_0000_0000_0000
 
 abbrev minusTwoAndHalf : Float
 minusTwoAndHalf = ofBits binary64 0xc004_0000_0000_0000
+
+abbrev four : Float
+four = ofBits binary64 0x4010_0000_0000_0000
 
 abbrev largest : Float
 largest = ofBits binary64 0x7fef_ffff_ffff_ffff
@@ -90,8 +93,8 @@ Downwards = map (snap 4) (fiveParts ∷ minusFiveParts ∷ justAbove ∷ []) ≡
 
 abbrev Outside : Type 0
 Outside =
-    map (snap 4) (belowMinusTwo ∷ minusTwoAndHalf ∷ largest ∷ minusInfinite ∷ [])
-    ≡ beyond belowMinusTwo ∷ beyond minusTwoAndHalf ∷ beyond largest ∷ notFinite ∷ []
+    map (snap 4) (belowMinusTwo ∷ minusTwoAndHalf ∷ four ∷ largest ∷ minusInfinite ∷ [])
+    ≡ beyond belowMinusTwo ∷ beyond minusTwoAndHalf ∷ beyond four ∷ beyond largest ∷ notFinite ∷ []
 
 -- ---- the order of shares
 

@@ -23,7 +23,7 @@ PrintsTetra weights answer = prints (bytes "pack-map\t4\n" ++ tetraLines ++ byte
 abbrev HeadBreaks : String → Type 0
 HeadBreaks head = Prints head "refused\t17\t1\n"
 
--- nothing; no LF; an empty line; one field; three; other bytes than pack-map; a space for the tab; CR before LF
+-- nothing; no LF; an empty line; one field; three; other bytes than pack-map; for the tab a space, and the byte before it; CR before LF
 abbrev Heads : Type 0
 Heads =
     HeadBreaks ""
@@ -38,6 +38,7 @@ Heads =
     × HeadBreaks "pack-map \t4\nx"
     × HeadBreaks "pack_map\t4\nx"
     × HeadBreaks "pack-map 4\nx"
+    × (prints (bytes "pack-map" ++ (8 ∷ bytes "4\nx")) ≡ bytes "refused\t17\t1\n")
     × HeadBreaks "pack-map\t4\r\nx"
 
 -- By layout n is 0 to 65535. What is outside 3 to 256 is 1 directly after the first line; otherwise line 2, the x, is looked at.
@@ -186,7 +187,7 @@ unfolding prints toldWithText lineOf hostCall ofBits
 text-cases = heads and vertices and triangles and weights and line-numbers and longest-text and order and told and listings and hosts and all-held
   where
     heads : Heads
-    heads = (refl, refl, refl, refl, refl, refl, refl, refl, refl, refl, refl, refl, refl)
+    heads = (refl, refl, refl, refl, refl, refl, refl, refl, refl, refl, refl, refl, refl, refl)
 
     vertices : Vertices
     vertices = (refl, refl, refl, refl, refl, refl, refl, refl, refl, refl)
