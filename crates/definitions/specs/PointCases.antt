@@ -24,6 +24,10 @@ half = ofBits binary64 0x3fe0_0000_0000_0000
 abbrev minusQuarter : Float
 minusQuarter = ofBits binary64 0xbfd0_0000_0000_0000
 
+-- 1.75
+abbrev sevenQuarters : Float
+sevenQuarters = ofBits binary64 0x3ffc_0000_0000_0000
+
 -- 5/32 = 1.25 * 2 ^ -3, and -5/32
 abbrev fiveParts : Float
 fiveParts = ofBits binary64 0x3fc4_0000_0000_0000
@@ -31,7 +35,7 @@ fiveParts = ofBits binary64 0x3fc4_0000_0000_0000
 abbrev minusFiveParts : Float
 minusFiveParts = ofBits binary64 0xbfc4_0000_0000_0000
 
--- the least above 0, the next below -2, 2.5, -2.5, 4, and the largest of all
+-- the least above 0, the next below -2, 2.5, -2.5, 3, 4, and the largest of all
 abbrev justAbove : Float
 justAbove = ofBits binary64 0x0000_0000_0000_0001
 
@@ -43,6 +47,9 @@ twoAndHalf = ofBits binary64 0x4004_0000_0000_0000
 
 abbrev minusTwoAndHalf : Float
 minusTwoAndHalf = ofBits binary64 0xc004_0000_0000_0000
+
+abbrev three : Float
+three = ofBits binary64 0x4008_0000_0000_0000
 
 abbrev four : Float
 four = ofBits binary64 0x4010_0000_0000_0000
@@ -87,14 +94,16 @@ Edges =
           minus 131072 ∷ pos 131072 ∷ pos 65536 ∷ pos 131072 ∷ minus 131072 ∷ pos 65536 ∷ minus 16384 ∷ minus 16384 ∷ pos 98304 ∷ [];
     })
 
--- 5/32 * 16 is 2.5: it becomes 2, and -2.5 becomes -3. The least share above 0 becomes 0.
+-- 5/32 * 16 is 2.5: it becomes 2, and -2.5 becomes -3. The least share above 0 becomes 0, and 1.75 * 16 is 28.
 abbrev Downwards : Type 0
-Downwards = map (snap 4) (fiveParts ∷ minusFiveParts ∷ justAbove ∷ []) ≡ whole (pos 2) ∷ whole (minus 3) ∷ whole (pos 0) ∷ []
+Downwards =
+    map (snap 4) (fiveParts ∷ minusFiveParts ∷ justAbove ∷ sevenQuarters ∷ [])
+    ≡ whole (pos 2) ∷ whole (minus 3) ∷ whole (pos 0) ∷ whole (pos 28) ∷ []
 
 abbrev Outside : Type 0
 Outside =
-    map (snap 4) (belowMinusTwo ∷ minusTwoAndHalf ∷ four ∷ largest ∷ minusInfinite ∷ [])
-    ≡ beyond belowMinusTwo ∷ beyond minusTwoAndHalf ∷ beyond four ∷ beyond largest ∷ notFinite ∷ []
+    map (snap 4) (belowMinusTwo ∷ minusTwoAndHalf ∷ three ∷ four ∷ largest ∷ minusInfinite ∷ [])
+    ≡ beyond belowMinusTwo ∷ beyond minusTwoAndHalf ∷ beyond three ∷ beyond four ∷ beyond largest ∷ notFinite ∷ []
 
 -- ---- the order of shares
 
