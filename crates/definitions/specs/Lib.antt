@@ -4,12 +4,6 @@
 pub mod Lists
 pub mod Mesh
 pub mod Labels
-pub mod CheckedShells
-pub mod RefusalTable
-pub mod OwnCases
-pub mod MeshCases
-pub mod LabelCases
-pub mod MapCases
 pub mod Forward
 pub mod Backward
 pub mod Repair
@@ -17,3 +11,12 @@ pub mod Answers
 pub mod DrawnPoints
 pub mod Refusals
 pub mod Job
+pub mod CheckedShells
+pub mod RefusalTable
+pub mod MeshCases
+pub mod LabelCases
+pub mod MapCases
+pub mod RepairCases
+pub mod PointCases
+pub mod RefusalCases
+pub mod TextCases

@@ -6,7 +6,6 @@ use lib.ListN.{length, replicate}
 use lib.IntN.{ℤ, pos}
 use lib.Ieee.{Float, ofBits, binary64}
 use Rattle.definitions.specs.Answers.{refused, numbered, stoppedAfter, shareOutside}
-use Rattle.definitions.specs.Repair.{limit}
 use Rattle.definitions.specs.Refusals.{checkCall, forwardCall, backwardCall, repairCall, snapCall}
 use Rattle.definitions.specs.Job.{bytes, hostCall, prints}
 use Rattle.definitions.specs.CheckedShells.{Every, all-held, _and_, tetra, stale, lent, zeros, minus, tetraAt}
@@ -64,9 +63,13 @@ Row8 = Refuses 11 (tetra ++ torus) 8 (zeros 264)
 
 -- ---- weights and coordinates: 9 to 13
 
+-- L, as document 01 writes it
+abbrev pub L : ℕ
+L = 1_073_741_823
+
 abbrev Row9 : Type 0
 Row9 =
-    forwardCall 4 tetra (pos limit ∷ pos 1 ∷ pos 0 ∷ []) (lent 12) (lent 96)
+    forwardCall 4 tetra (pos L ∷ pos 1 ∷ pos 0 ∷ []) (lent 12) (lent 96)
     ≡ record { answer = refused (numbered 9); coordinates = lent 12; scratch = zeros 96 }
 
 -- coordinates of the tetra that backward refuses
@@ -74,7 +77,7 @@ abbrev Backs : List ℤ → ℕ → Type 0
 Backs bs k = backwardCall 4 tetra bs (lent 3) (lent 96) ≡ record { answer = refused (numbered k); weights = lent 3; scratch = zeros 96 }
 
 abbrev Row10 : Type 0
-Row10 = Backs (tetraAt (pos 10) (pos 5) (pos (limit + 1)) (pos 2)) 10
+Row10 = Backs (tetraAt (pos 10) (pos 5) (pos (L + 1)) (pos 2)) 10
 
 abbrev Row11 : Type 0
 Row11 = Backs (pos 9 ∷ pos 0 ∷ pos 0 ∷ pos 1 ∷ pos 8 ∷ pos 0 ∷ pos 0 ∷ pos 0 ∷ pos 9 ∷ pos 3 ∷ pos 5 ∷ pos 1 ∷ []) 11
@@ -136,10 +139,10 @@ Row16 =
 abbrev pub tetraLines : List ℕ
 tetraLines = bytes "t\t0\t2\t1\nt\t0\t3\t2\nt\t3\t1\t2\nt\t0\t1\t3\n"
 
-abbrev exampleText : List ℕ
+abbrev pub exampleText : List ℕ
 exampleText = bytes "pack-map\t4\n" ++ tetraLines ++ bytes "w\t5\nw\t3\nw\t-1\n"
 
-abbrev exampleListing : List ℕ
+abbrev pub exampleListing : List ℕ
 exampleListing = bytes "pack-map\t4\t9\t1\nv\t0\t9\t0\t0\nv\t1\t0\t9\t0\nv\t2\t0\t0\t9\nv\t3\t3\t5\t1\n"
 
 abbrev Row17 : Type 0
