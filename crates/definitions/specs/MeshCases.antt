@@ -16,8 +16,8 @@ use Rattle.definitions.specs.CheckedShells.{Every, all-held, _and_, tetr
 -- ---- functions on lists
 
 -- of 1, 5, 3 the first that is 2 or more is 5, and none is 6 or more
-abbrev Lists : Type 0
-Lists =
+abbrev ListFunctions : Type 0
+ListFunctions =
     (range 4 3 ≡ 4 ∷ 5 ∷ 6 ∷ [])
     × (upto 3 ≡ 0 ∷ 1 ∷ 2 ∷ [])
     × (firstOr (leb 2) 7 (1 ∷ 5 ∷ 3 ∷ []) ≡ 5)
@@ -124,15 +124,15 @@ LastVertex = Refuses 9 (threeRings 8 0) 7
 
 pub mesh-cases :
     Every
-    (Lists ∷ Lengths ∷ Places ∷ Sides ∷ Rotation ∷ Pieces ∷ VertexNumbers ∷ VertexTwice ∷ FourBeforeFive ∷ OneSideTwice ∷ Untouched
+    (ListFunctions ∷ Lengths ∷ Places ∷ Sides ∷ Rotation ∷ Pieces ∷ VertexNumbers ∷ VertexTwice ∷ FourBeforeFive ∷ OneSideTwice ∷ Untouched
     ∷ FirstVertex ∷ LastVertex ∷ [])
 unfolding range upto firstOr first minimum init total totalAbs corners darts triangles inner tip opp outgoing rotations component checkCall
 mesh-cases =
-    lists and lengths and places and sides and rotation and pieces
+    listFunctions and lengths and places and sides and rotation and pieces
     and vertexNumbers and vertexTwice and fourBeforeFive and oneSideTwice and untouched and firstVertex and lastVertex and all-held
   where
-    lists : Lists
-    lists = (refl, refl, refl, refl, refl, refl, refl, refl, refl, refl)
+    listFunctions : ListFunctions
+    listFunctions = (refl, refl, refl, refl, refl, refl, refl, refl, refl, refl)
 
     lengths : Lengths
     lengths = refl
