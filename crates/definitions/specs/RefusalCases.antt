@@ -182,14 +182,17 @@ Corners =
     × OuterAt corner0 corner1 (at (pos 0) (pos 0) (pos 10)) 11
 
 -- The outer triangle (2, 1, 0) says that v0 is 2, v2 is 1 and v1 is 0. N = 5.
-abbrev turned : List ℕ
-turned = 2 ∷ 1 ∷ 0 ∷ 2 ∷ 0 ∷ 1 ∷ []
+abbrev renumbered : List ℕ
+renumbered = 2 ∷ 1 ∷ 0 ∷ 2 ∷ 0 ∷ 1 ∷ []
+
+abbrev renumberedCorners : List ℤ
+renumberedCorners = at (pos 0) (pos 5) (pos 0) ++ at (pos 0) (pos 0) (pos 5) ++ at (pos 5) (pos 0) (pos 0)
 
 abbrev NamedCorners : Type 0
 NamedCorners =
-    (backwardCall 3 turned (at (pos 0) (pos 5) (pos 0) ++ at (pos 0) (pos 0) (pos 5) ++ at (pos 5) (pos 0) (pos 0)) (lent 1) (lent 72)
+    (backwardCall 3 renumbered renumberedCorners (lent 1) (lent 72)
     ≡ record { answer = done tt; weights = pos 5 ∷ []; scratch = zeros 72 })
-    × BackwardRefuses 3 turned (at (pos 5) (pos 0) (pos 0) ++ at (pos 0) (pos 5) (pos 0) ++ at (pos 0) (pos 0) (pos 5)) (lent 1) (lent 72) 11 (zeros 72)
+    × BackwardRefuses 3 renumbered (at (pos 5) (pos 0) (pos 0) ++ at (pos 0) (pos 5) (pos 0) ++ at (pos 0) (pos 0) (pos 5)) (lent 1) (lent 72) 11 (zeros 72)
 
 -- a sum below N, at the last vertex and at the one before it (P4 has vertex 3 at (1, 1, 3))
 abbrev Sums : Type 0
@@ -222,11 +225,13 @@ Weights =
 abbrev AcceptedAt : List ℤ → Type 0
 AcceptedAt bs = AcceptedCoordinates 4 tetra (0 ∷ 1 ∷ 2 ∷ 0 ∷ 1 ∷ 2 ∷ 0 ∷ 1 ∷ 2 ∷ []) bs
 
--- Those of the weights L, 0, 0 are, though they sum to 4L themselves. Not those of P5 with a number after them; not with b0 of vertex 3 at L + 1, which
--- breaks 10 (and 9: the second weight is b0); not the examples of 11 and 12; and not N = L with vertex 3 at (L, -L, L), which breaks 9 alone.
+-- Those of the weights L, 0, 0 are, though they sum to 4L themselves, and the corners where v0 is vertex 2. Not those of P5 with a number after them;
+-- not with b0 of vertex 3 at L + 1, which breaks 10 (and 9: the second weight is b0); not the examples of 11 and 12; and not N = L with vertex 3 at
+-- (L, -L, L), which breaks 9 alone.
 abbrev Coordinates : Type 0
 Coordinates =
     AcceptedAt (tetraAt (pos L) (pos L) (pos 0) (pos 0))
+    × AcceptedCoordinates 3 renumbered (0 ∷ 1 ∷ 2 ∷ []) renumberedCorners
     × (¬ AcceptedAt (tetraAt (pos 10) (pos 5) (pos 3) (pos 2) ++ (pos 0 ∷ [])))
     × (¬ AcceptedAt (tetraAt (pos L) (pos 0) (pos 1_073_741_824) (minus 1)))
     × (¬ AcceptedAt (corner0 ++ at (pos 1) (pos 8) (pos 0) ++ corner2 ++ at (pos 3) (pos 5) (pos 1)))
@@ -286,6 +291,7 @@ refusal-cases =
 
     coordinates : Coordinates
     coordinates = (
+      (refl, refl, refl, refl, refl),
       (refl, refl, refl, refl, refl),
       λ a. omega (arith, a .0),
       λ a. true≢false (a .1),
