@@ -7,7 +7,8 @@
  * Slices. A slice is a pointer and a number of items. The caller lends it for the time of a call.
  *   - Its length is exact: for n vertices the macros below tell it. A slice of another length is refused with 2.
  *   - Its pointer is not null, not even for a length of 0, and aligned for its type.
- *   - No slice that a call may write overlaps another one of that call.
+ *   - No slice that a call may write overlaps another one of that call. The same goes for *count and *outside, which
+ *     are written as a slice of one item is.
  *   - Triangles are triples of vertex numbers from 0. The first is the outer one: its vertices, as listed, are v0, v2,
  *     v1. The others are inner; weights and labels stand in their order.
  *   - Coordinates are b0, b1, b2 of each vertex; shares are x, y of each drawn point.

@@ -47,7 +47,7 @@ abbrev pub minus : ℕ → ℤ
 minus k = negℤ (pos k)
 
 -- the shares of P9 to P11, by their bits: 0.5, -0, the largest below 0, and 2
-abbrev half : Float
+abbrev pub half : Float
 half = ofBits binary64 0x3fe0_0000_0000_0000
 
 abbrev minusZero : Float
@@ -56,7 +56,7 @@ minusZero = ofBits binary64 0x8000_0000_0000_0000
 abbrev justBelow : Float
 justBelow = ofBits binary64 0x8000_0000_0000_0001
 
-abbrev two : Float
+abbrev pub two : Float
 two = ofBits binary64 0x4000_0000_0000_0000
 
 -- scale 0, and the scales from 4 to 24

@@ -85,16 +85,16 @@ abbrev begun : Peeling
 begun = record { frontier = 4 ∷ 1 ∷ 3 ∷ []; removed = []; passed = [] }
 
 -- 5 and 0 can leave. 0 is the smaller, though later on the frontier; it leaves with 5, 2, 3.
-abbrev oneLeft : Peeling
-oneLeft = record { frontier = 4 ∷ 5 ∷ 0 ∷ 3 ∷ []; removed = 1 ∷ []; passed = 4 ∷ 8 ∷ 9 ∷ [] }
+abbrev afterOne : Peeling
+afterOne = record { frontier = 4 ∷ 5 ∷ 0 ∷ 3 ∷ []; removed = 1 ∷ []; passed = 4 ∷ 8 ∷ 9 ∷ [] }
 
 -- 2 has a chord to 4. 5 leaves with 4, 2.
-abbrev twoLeft : Peeling
-twoLeft = record { frontier = 4 ∷ 5 ∷ 2 ∷ 3 ∷ []; removed = 0 ∷ 1 ∷ []; passed = 4 ∷ 8 ∷ 9 ∷ 16 ∷ 20 ∷ [] }
+abbrev afterTwo : Peeling
+afterTwo = record { frontier = 4 ∷ 5 ∷ 2 ∷ 3 ∷ []; removed = 0 ∷ 1 ∷ []; passed = 4 ∷ 8 ∷ 9 ∷ 16 ∷ 20 ∷ [] }
 
 -- 2 leaves with 4, 3, and v0 and v1 stay.
-abbrev threeLeft : Peeling
-threeLeft = record { frontier = 4 ∷ 2 ∷ 3 ∷ []; removed = 5 ∷ 0 ∷ 1 ∷ []; passed = 4 ∷ 8 ∷ 9 ∷ 16 ∷ 20 ∷ 14 ∷ [] }
+abbrev afterThree : Peeling
+afterThree = record { frontier = 4 ∷ 2 ∷ 3 ∷ []; removed = 5 ∷ 0 ∷ 1 ∷ []; passed = 4 ∷ 8 ∷ 9 ∷ 16 ∷ 20 ∷ 14 ∷ [] }
 
 abbrev ended : Peeling
 ended = record { frontier = 4 ∷ 3 ∷ []; removed = 2 ∷ 5 ∷ 0 ∷ 1 ∷ []; passed = 4 ∷ 8 ∷ 9 ∷ 16 ∷ 20 ∷ 14 ∷ 21 ∷ [] }
@@ -104,18 +104,20 @@ abbrev Choices : Type 0
 Choices =
     (map (outer mixed) (0 ∷ 1 ∷ 2 ∷ []) ≡ 4 ∷ 3 ∷ 1 ∷ [])
     × (start mixed ≡ begun)
-    × (map (nextRemovable mixed) (begun ∷ oneLeft ∷ twoLeft ∷ threeLeft ∷ ended ∷ []) ≡ some 1 ∷ some 0 ∷ some 5 ∷ some 2 ∷ none ∷ [])
+    × (map (nextRemovable mixed) (begun ∷ afterOne ∷ afterTwo ∷ afterThree ∷ ended ∷ []) ≡ some 1 ∷ some 0 ∷ some 5 ∷ some 2 ∷ none ∷ [])
 
 -- u1 .. uk
 abbrev Fans : Type 0
 Fans =
     (map (tip mixed) (fan mixed begun 1) ≡ 4 ∷ 5 ∷ 0 ∷ 3 ∷ [])
-    × (map (tip mixed) (fan mixed oneLeft 0) ≡ 5 ∷ 2 ∷ 3 ∷ [])
-    × (map (tip mixed) (fan mixed twoLeft 5) ≡ 4 ∷ 2 ∷ [])
-    × (map (tip mixed) (fan mixed threeLeft 2) ≡ 4 ∷ 3 ∷ [])
+    × (map (tip mixed) (fan mixed afterOne 0) ≡ 5 ∷ 2 ∷ 3 ∷ [])
+    × (map (tip mixed) (fan mixed afterTwo 5) ≡ 4 ∷ 2 ∷ [])
+    × (map (tip mixed) (fan mixed afterThree 2) ≡ 4 ∷ 3 ∷ [])
 
 abbrev Steps : Type 0
-Steps = (map (step mixed) (begun ∷ oneLeft ∷ twoLeft ∷ threeLeft ∷ ended ∷ []) ≡ oneLeft ∷ twoLeft ∷ threeLeft ∷ ended ∷ ended ∷ []) × (peel mixed 6 ≡ ended)
+Steps =
+    (map (step mixed) (begun ∷ afterOne ∷ afterTwo ∷ afterThree ∷ ended ∷ []) ≡ afterOne ∷ afterTwo ∷ afterThree ∷ ended ∷ ended ∷ [])
+    × (peel mixed 6 ≡ ended)
 
 -- the labels that these steps give, in listed order
 abbrev pub mixedLabels : List ℕ
@@ -133,7 +135,10 @@ abbrev Coloured : ℕ → List ℕ → Type 0
 Coloured c ds = filter (points mixed mixedLabels c) (darts mixed) ≡ ds
 
 abbrev Colours : Type 0
-Colours = Coloured 0 (2 ∷ 4 ∷ 14 ∷ 16 ∷ 21 ∷ []) × Coloured 1 (1 ∷ 10 ∷ 17 ∷ 18 ∷ 22 ∷ []) × Coloured 2 (0 ∷ 3 ∷ 7 ∷ 11 ∷ 15 ∷ [])
+Colours =
+    Coloured 0 (2 ∷ 4 ∷ 14 ∷ 16 ∷ 21 ∷ [])
+    × Coloured 1 (1 ∷ 10 ∷ 17 ∷ 18 ∷ 22 ∷ [])
+    × Coloured 2 (0 ∷ 3 ∷ 7 ∷ 11 ∷ 15 ∷ [])
 
 -- the rim sides, from the outer triangle (darts 0, 1, 2) and from the inner ones (1 to 4, 3 to 1, 4 to 3)
 abbrev Rim : Type 0

@@ -62,8 +62,13 @@ LongPath =
     ≡ record {
       answer = done tt;
       coordinates =
-          pos 62 ∷ pos 1 ∷ pos 64 ∷ pos 0 ∷ pos 127 ∷ pos 0 ∷ pos 28 ∷ pos 3 ∷ pos 96 ∷ pos 0 ∷ pos 0 ∷ pos 127 ∷ pos 8 ∷ pos 7 ∷ pos 112
-          ∷ pos 127 ∷ pos 0 ∷ pos 0 ∷ [];
+          pos 62 ∷ pos 1 ∷ pos 64
+          ∷ pos 0 ∷ pos 127 ∷ pos 0
+          ∷ pos 28 ∷ pos 3 ∷ pos 96
+          ∷ pos 0 ∷ pos 0 ∷ pos 127
+          ∷ pos 8 ∷ pos 7 ∷ pos 112
+          ∷ pos 127 ∷ pos 0 ∷ pos 0
+          ∷ [];
       scratch = zeros 144;
     }
 

@@ -1,6 +1,6 @@
 -- Cases of our own for the shared functions on lists and for "Mesh and lent slices", computed of the definitions: lengths, darts, and the rows 3 to 8
 -- of the table of refusals. What each expects is worked out from the paper by hand; the comments say how. Assumes nothing.
-use Prim.Native.Nat.{ℕ, _*_}
+use Prim.Native.Nat.{ℕ, _-_, _*_}
 use mathlib.Core.Path.{_≡_, refl}
 use mathlib.Core.Option.{none, some}
 use mathlib.Core.List.{List, [], _∷_, map}
@@ -12,6 +12,7 @@ use Rattle.definitions.specs.Mesh.{trianglesLength, labelsLength, weight
 use Rattle.definitions.specs.Mesh.{corners, darts, triangles, inner, tip, opp, rotations, outgoing, component}
 use Rattle.definitions.specs.Refusals.{checkCall}
 use Rattle.definitions.specs.CheckedShells.{Every, all-held, _and_, tetra, lent, zeros, minus}
+use Rattle.definitions.specs.RefusalTable.{torus}
 
 -- ---- functions on lists
 
@@ -91,19 +92,9 @@ FourBeforeFive = Refuses 4 (0 ∷ 2 ∷ 1 ∷ 0 ∷ 2 ∷ 1 ∷ 0 ∷ 0 ∷ 1 �
 abbrev OneSideTwice : Type 0
 OneSideTwice = Refuses 5 (3 ∷ 2 ∷ 0 ∷ 0 ∷ 2 ∷ 1 ∷ 3 ∷ 1 ∷ 2 ∷ 0 ∷ 1 ∷ 4 ∷ 1 ∷ 3 ∷ 4 ∷ 2 ∷ 4 ∷ 3 ∷ []) 5
 
--- the torus on 7 vertices has the 14 triangles of n = 9, and no triangle touches 7 and 8
+-- the torus on the vertices 0 to 6 has the 14 triangles of n = 9, and no triangle touches 7 and 8
 abbrev Untouched : Type 0
-Untouched =
-    Refuses 9
-    (0 ∷ 1 ∷ 3 ∷ 0 ∷ 3 ∷ 2
-    ∷ 1 ∷ 2 ∷ 4 ∷ 1 ∷ 4 ∷ 3
-    ∷ 2 ∷ 3 ∷ 5 ∷ 2 ∷ 5 ∷ 4
-    ∷ 3 ∷ 4 ∷ 6 ∷ 3 ∷ 6 ∷ 5
-    ∷ 4 ∷ 5 ∷ 0 ∷ 4 ∷ 0 ∷ 6
-    ∷ 5 ∷ 6 ∷ 1 ∷ 5 ∷ 1 ∷ 0
-    ∷ 6 ∷ 0 ∷ 2 ∷ 6 ∷ 2 ∷ 1
-    ∷ [])
-    7
+Untouched = Refuses 9 (map (λ v. v - 4) torus) 7
 
 -- Only v has not one ring. It has three: a, 1, 2, then 3, 4, 5, then 6, 7. The first two are the ends of one sphere that has v at both; the third is
 -- a sphere of two triangles. 12 + 2 triangles are those of n = 9.

@@ -8,18 +8,13 @@ use lib.Ieee.{Float, ofBits, binary64}
 use Rattle.definitions.specs.Answers.{Refusal, done, refused, numbered, shareOutside}
 use Rattle.definitions.specs.DrawnPoints.{whole, notFinite, beyond, snap}
 use Rattle.definitions.specs.Refusals.{snapCall}
-use Rattle.definitions.specs.CheckedShells.{Every, all-held, _and_, lent, minus}
+use Rattle.definitions.specs.CheckedShells.{Every, all-held, _and_, lent, minus, half, two}
+use Rattle.definitions.specs.RefusalTable.{noNumber, twoAndHalf}
 
 -- ---- shares, by their bits
 
 abbrev minusTwo : Float
 minusTwo = ofBits binary64 0xc000_0000_0000_0000
-
-abbrev two : Float
-two = ofBits binary64 0x4000_0000_0000_0000
-
-abbrev half : Float
-half = ofBits binary64 0x3fe0_0000_0000_0000
 
 abbrev minusQuarter : Float
 minusQuarter = ofBits binary64 0xbfd0_0000_0000_0000
@@ -35,15 +30,12 @@ fiveParts = ofBits binary64 0x3fc4_0000_0000_0000
 abbrev minusFiveParts : Float
 minusFiveParts = ofBits binary64 0xbfc4_0000_0000_0000
 
--- the least above 0, the next below -2, 2.5, -2.5, 3, 4, and the largest of all
+-- the least above 0, the next below -2, -2.5, 3, 4, and the largest of all
 abbrev justAbove : Float
 justAbove = ofBits binary64 0x0000_0000_0000_0001
 
 abbrev belowMinusTwo : Float
 belowMinusTwo = ofBits binary64 0xc000_0000_0000_0001
-
-abbrev twoAndHalf : Float
-twoAndHalf = ofBits binary64 0x4004_0000_0000_0000
 
 abbrev minusTwoAndHalf : Float
 minusTwoAndHalf = ofBits binary64 0xc004_0000_0000_0000
@@ -57,12 +49,8 @@ four = ofBits binary64 0x4010_0000_0000_0000
 abbrev largest : Float
 largest = ofBits binary64 0x7fef_ffff_ffff_ffff
 
--- minus infinity, and a NaN
 abbrev minusInfinite : Float
 minusInfinite = ofBits binary64 0xfff0_0000_0000_0000
-
-abbrev noNumber : Float
-noNumber = ofBits binary64 0x7ff8_0000_0000_0000
 
 -- ---- scales
 
@@ -112,7 +100,7 @@ abbrev PointsRefused : Float → Float → Float → Float → Float → Float �
 PointsRefused x1 y1 x2 y2 x3 y3 why =
     snapCall 3 (x1 ∷ y1 ∷ x2 ∷ y2 ∷ x3 ∷ y3 ∷ []) 4 (lent 9) ≡ record { answer = refused why; coordinates = lent 9 }
 
--- Two shares of three points are refused at most: x before y, and a point before the next.
+-- Of two shares that are refused the first decides: x before y, and a point before the next.
 abbrev ShareByShare : Type 0
 ShareByShare =
     PointsRefused twoAndHalf noNumber half half half half (shareOutside twoAndHalf)

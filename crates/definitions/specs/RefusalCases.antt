@@ -14,7 +14,7 @@ use Rattle.definitions.specs.Answers.{done, refused, numbered, stoppedAf
 use Rattle.definitions.specs.Refusals.{checkCall, labelsCall, forwardCall, backwardCall, repairCall, snapCall}
 use Rattle.definitions.specs.Refusals.{Accepted, AcceptedWeights, AcceptedCoordinates}
 use Rattle.definitions.specs.CheckedShells.{Every, all-held, _and_, pair, tetra, five, stale, lent, zeros, minus, tetraAt}
-use Rattle.definitions.specs.RefusalTable.{torus, L}
+use Rattle.definitions.specs.RefusalTable.{torus, L, noNumber}
 
 -- Lent slices for n = 3: 6 vertex numbers, 3 labels, 1 weight, 9 coordinates, 72 words of scratch, 6 shares. For n = 4: 12, 9, 3, 12, 96 and 8.
 
@@ -41,12 +41,9 @@ RepairRefuses n ts ws bs scratch k left =
 abbrev SnapRefuses : ℕ → List Float → ℕ → List ℤ → ℕ → Type 0
 SnapRefuses n shares r bs k = snapCall n shares r bs ≡ record { answer = refused (numbered k); coordinates = bs }
 
--- shares by their bits: 0, and a NaN
+-- the share 0
 abbrev zeroShare : Float
 zeroShare = ofBits binary64 0
-
-abbrev noNumber : Float
-noNumber = ofBits binary64 0x7ff8_0000_0000_0000
 
 -- ---- 1 and 2
 
@@ -240,8 +237,8 @@ Coordinates =
 
 pub refusal-cases :
     Every
-    (Vertices ∷ Lengths ∷ MeshOrder ∷ MeshFirst ∷ BackwardOrder ∷ SnapOrder ∷ WeightLimit ∷ CoordinateLimit ∷ Corners ∷ NamedCorners ∷ Sums ∷ Numbers
-    ∷ Meshes ∷ Weights ∷ Coordinates ∷ [])
+    (Vertices ∷ Lengths ∷ MeshOrder ∷ MeshFirst ∷ BackwardOrder ∷ SnapOrder ∷ WeightLimit ∷ CoordinateLimit ∷ Corners ∷ NamedCorners ∷ Sums
+    ∷ Numbers ∷ Meshes ∷ Weights ∷ Coordinates ∷ [])
 unfolding checkCall labelsCall forwardCall backwardCall repairCall snapCall ofBits
 refusal-cases =
     vertices and lengths and mesh-order and mesh-first and backward-order and snap-order and weight-limit and coordinate-limit and corners and named-corners

@@ -8,7 +8,7 @@ use lib.Ieee.{Float, ofBits, binary64}
 use Rattle.definitions.specs.Answers.{refused, numbered, stoppedAfter, shareOutside}
 use Rattle.definitions.specs.Refusals.{checkCall, forwardCall, backwardCall, repairCall, snapCall}
 use Rattle.definitions.specs.Job.{bytes, hostCall, prints}
-use Rattle.definitions.specs.CheckedShells.{Every, all-held, _and_, tetra, stale, lent, zeros, minus, tetraAt}
+use Rattle.definitions.specs.CheckedShells.{Every, all-held, _and_, tetra, stale, lent, zeros, minus, half, tetraAt}
 
 -- ---- the mesh: 1 to 8
 
@@ -100,17 +100,14 @@ Row13 =
 
 -- ---- drawn points: 14 to 16
 
--- shares by their bits: 0.5, infinity, a NaN, 2.5, and the next above 2
-abbrev half : Float
-half = ofBits binary64 0x3fe0_0000_0000_0000
-
+-- shares by their bits: infinity, a NaN, 2.5, and the next above 2
 abbrev infinite : Float
 infinite = ofBits binary64 0x7ff0_0000_0000_0000
 
-abbrev noNumber : Float
+abbrev pub noNumber : Float
 noNumber = ofBits binary64 0xfff8_0000_0000_0001
 
-abbrev twoAndHalf : Float
+abbrev pub twoAndHalf : Float
 twoAndHalf = ofBits binary64 0x4004_0000_0000_0000
 
 abbrev aboveTwo : Float

@@ -4,10 +4,9 @@ use Prim.Native.String.{String}
 use mathlib.Core.Path.{_≡_, refl}
 use mathlib.Core.List.{[], _∷_, _++_}
 use lib.ListN.{replicate}
-use lib.Ieee.{Float, ofBits, binary64}
 use Rattle.definitions.specs.Answers.{numbered, stoppedAfter, shareOutside, lineBroken}
 use Rattle.definitions.specs.Job.{bytes, toldWithText, lineOf, hostCall, prints}
-use Rattle.definitions.specs.CheckedShells.{Every, all-held, _and_, stale}
+use Rattle.definitions.specs.CheckedShells.{Every, all-held, _and_, stale, two}
 use Rattle.definitions.specs.RefusalTable.{tetraLines, exampleText, exampleListing}
 
 -- what packmap prints of a text, and of the tetra's text with these lines after its triangles
@@ -141,9 +140,6 @@ Order =
     × PrintsTetra "w\t-2147483648\nw\t0\nw\t0\n" "refused\t9\t0\n"
     × PrintsTetra "w\t1\nw\t-1073741821\nw\t1\n" "refused\t13\t0\n"
 
-abbrev two : Float
-two = ofBits binary64 0x4000_0000_0000_0000
-
 -- what a refusal tells where a text is given, and the line that it names
 abbrev Told : Type 0
 Told =
@@ -183,7 +179,7 @@ Hosts =
 
 pub text-cases :
     Every (Heads ∷ Vertices ∷ Triangles ∷ Weights ∷ LineNumbers ∷ LongestText ∷ Order ∷ Told ∷ Listings ∷ Hosts ∷ [])
-unfolding prints toldWithText lineOf hostCall ofBits
+unfolding prints toldWithText lineOf hostCall
 text-cases = heads and vertices and triangles and weights and line-numbers and longest-text and order and told and listings and hosts and all-held
   where
     heads : Heads
