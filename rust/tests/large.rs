@@ -3,6 +3,7 @@
 mod common;
 
 use common::*;
+use second::text::Job;
 
 #[test]
 fn maps_there_and_back() {
@@ -48,9 +49,9 @@ fn job_of_zero_weights() {
         for (v, b) in coordinates.chunks_exact(3).enumerate() {
             listing += &format!("v\t{v}\t{}\t{}\t{}\n", b[0], b[1], b[2]);
         }
-        let text = text(n, &stack(n), &vec![0; 2 * n - 5]);
+        let text = Job::write(n, &stack(n), &vec![0; 2 * n - 5]);
         let wanted = Ok(listing.into_bytes());
-        assert_eq!(job(text.as_bytes(), packmap::JOB_BYTES), wanted);
+        assert_eq!(job(&text, packmap::JOB_BYTES), wanted);
     }
 }
 

@@ -2,8 +2,9 @@
 
 mod common;
 
-use common::{stale, stale_bytes, TETRA};
+use common::{stale, stale_bytes};
 use packmap::*;
+use second::shells::TETRA;
 
 #[test]
 fn lengths_by_the_paper() {

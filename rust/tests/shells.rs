@@ -3,6 +3,7 @@
 mod common;
 
 use common::*;
+use second::shells::{EXAMPLE, FIVE, LISTING, PAIR, TETRA};
 
 #[test]
 fn p1_to_p3_labels() {

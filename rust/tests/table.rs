@@ -5,6 +5,8 @@ mod common;
 
 use common::*;
 use packmap::Refusal;
+use second::shells::{EXAMPLE, LISTING, ROWS, TETRA};
+use second::text::Job;
 
 /// Coordinates on the tetra with v1 and vertex 3 as given.
 fn placed(total: i64, v1: [i64; 3], v3: [i64; 3]) -> Vec<i64> {
@@ -45,7 +47,16 @@ fn row_2_length() {
 
 #[test]
 fn rows_3_to_8_meshes() {
-    for (refused, n, triangles) in REFUSED_MESHES {
+    let refusals = [
+        Refusal::VertexNumber,
+        Refusal::VertexTwice,
+        Refusal::SideTwice,
+        Refusal::SideAlone,
+        Refusal::Ring,
+        Refusal::Pieces,
+    ];
+    for ((row, n, triangles), refused) in ROWS.into_iter().zip(refusals) {
+        assert_eq!(refused.number(), row);
         // Rows of weights and coordinates come after those of the mesh.
         let heavy = vec![i64::MIN; 2 * n - 5];
         assert_eq!(check(n, triangles), Err(refused));
@@ -53,8 +64,8 @@ fn rows_3_to_8_meshes() {
         assert_eq!(forward(n, triangles, &heavy), Err(refused));
         assert_eq!(backward(n, triangles, &vec![i64::MAX; 3 * n]), Err(refused));
         assert_eq!(repair(n, triangles, &heavy).0, Err(refused));
-        let text = text(n, triangles, &vec![-2_147_483_648; 2 * n - 5]);
-        assert_eq!(job(text.as_bytes(), 0), Err(refused));
+        let text = Job::write(n, triangles, &vec![-2_147_483_648; 2 * n - 5]);
+        assert_eq!(job(&text, 0), Err(refused));
     }
 }
 
@@ -65,8 +76,8 @@ fn row_9_weights() {
         assert_eq!(forward(4, &TETRA, &weights), Err(refused));
         assert_eq!(repair(4, &TETRA, &weights).0, Err(refused));
     }
-    let text = text(4, &TETRA, &[L, 1, 0]);
-    assert_eq!(job(text.as_bytes(), 0), Err(refused));
+    let text = Job::write(4, &TETRA, &[L, 1, 0]);
+    assert_eq!(job(&text, 0), Err(refused));
     // On the tetra vertex 3 is at (w2, w1, w3): here the weights are L, 1, -1.
     let coordinates = placed(L, [0, L, 0], [1, L, -1]);
     assert_eq!(backward(4, &TETRA, &coordinates), Err(refused));
@@ -98,9 +109,9 @@ fn row_13_raise() {
     let none = Refusal::Raise { raises: Some(0) };
     let left = (Err(none), STOPPED.to_vec(), tetra_coordinates(STOPPED));
     assert_eq!(repair(4, &TETRA, &STOPPED), left);
-    let text = text(4, &TETRA, &STOPPED);
+    let text = Job::write(4, &TETRA, &STOPPED);
     let untold = Refusal::Raise { raises: None };
-    assert_eq!(job(text.as_bytes(), 0), Err(untold));
+    assert_eq!(job(&text, 0), Err(untold));
 }
 
 /// On the tetra the area numbers are N w1, N w2, N w3. With -1, 0, L - 1 the first triangle is

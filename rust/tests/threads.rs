@@ -3,6 +3,7 @@
 mod common;
 
 use common::*;
+use second::text::Job;
 use std::thread;
 
 /// What all calls make of the stack of n vertices with weights of a seed.
@@ -22,7 +23,7 @@ fn make(n: usize, triangles: &[u16], seed: u64) -> Made {
         .iter()
         .map(|&w| w as f64 / 7.0)
         .collect();
-    let text = text(n, triangles, &weights);
+    let text = Job::write(n, triangles, &weights);
     let coordinates = forward(n, triangles, &weights).unwrap();
     assert_eq!(coordinates, stack_coordinates(n, &weights));
     Made {
@@ -31,7 +32,7 @@ fn make(n: usize, triangles: &[u16], seed: u64) -> Made {
         coordinates,
         repaired: repair(n, triangles, &weights),
         points: snap_points(n, &shares, 24).unwrap(),
-        listing: job(text.as_bytes(), packmap::JOB_BYTES).unwrap(),
+        listing: job(&text, packmap::JOB_BYTES).unwrap(),
     }
 }
 
@@ -75,9 +76,9 @@ fn within_the_stack() {
         packmap::repair(n, &triangles, &mut weights, &mut b, &mut scratch).unwrap();
         packmap::snap_points(n, &shares, 24, &mut b).unwrap();
     });
-    let text = text(256, &stack(256), &signed(507, 1));
+    let text = Job::write(256, &stack(256), &signed(507, 1));
     let mut listing = stale_bytes(packmap::JOB_BYTES);
     on_stack(packmap::JOB_STACK, move || {
-        packmap::job(text.as_bytes(), &mut listing).unwrap();
+        packmap::job(&text, &mut listing).unwrap();
     });
 }

@@ -1,62 +1,10 @@
-//! Document 01's meshes and texts, a mesh of any size whose answers are known by hand, and the
-//! calls on buffers that held something: each looks at what the call left in them.
+//! A mesh of any size whose answers are known by hand, and the calls on buffers that held something:
+//! each looks at what the call left in them.
 #![allow(dead_code)]
 
 use packmap::Refusal;
 
 pub const L: i64 = 1_073_741_823;
-
-pub const PAIR: [u16; 6] = [0, 2, 1, 0, 1, 2];
-pub const TETRA: [u16; 12] = [0, 2, 1, 0, 3, 2, 3, 1, 2, 0, 1, 3];
-pub const FIVE: [u16; 18] = [0, 2, 1, 0, 3, 2, 3, 1, 2, 0, 1, 4, 1, 3, 4, 3, 0, 4];
-
-/// The examples of rows 3 to 8, with their n.
-pub const REFUSED_MESHES: [(Refusal, usize, &[u16]); 6] = [
-    (Refusal::VertexNumber, 3, &[0, 2, 1, 0, 1, 3]),
-    (Refusal::VertexTwice, 3, &[0, 2, 1, 0, 0, 1]),
-    (Refusal::SideTwice, 3, &[0, 2, 1, 0, 2, 1]),
-    (
-        Refusal::SideAlone,
-        6,
-        &[
-            0, 1, 2, 0, 2, 3, 0, 3, 4, 0, 4, 5, 0, 5, 1, 1, 5, 4, 1, 4, 3, 2, 5, 3,
-        ],
-    ),
-    (
-        Refusal::Ring,
-        8,
-        &[
-            0, 1, 3, 1, 2, 3, 2, 0, 3, 1, 0, 4, 2, 1, 4, 0, 2, 4, //
-            5, 6, 3, 6, 7, 3, 7, 5, 3, 6, 5, 4, 7, 6, 4, 5, 7, 4,
-        ],
-    ),
-    (
-        Refusal::Pieces,
-        11,
-        &[
-            0, 2, 1, 0, 3, 2, 3, 1, 2, 0, 1, 3, //
-            4, 5, 7, 4, 7, 6, 5, 6, 8, 5, 8, 7, 6, 7, 9, 6, 9, 8, 7, 8, 10, 7, 10, 9, //
-            8, 9, 4, 8, 4, 10, 9, 10, 5, 9, 5, 4, 10, 4, 6, 10, 6, 5,
-        ],
-    ),
-];
-
-pub const EXAMPLE: &str =
-    "pack-map\t4\nt\t0\t2\t1\nt\t0\t3\t2\nt\t3\t1\t2\nt\t0\t1\t3\nw\t5\nw\t3\nw\t-1\n";
-pub const LISTING: &str =
-    "pack-map\t4\t9\t1\nv\t0\t9\t0\t0\nv\t1\t0\t9\t0\nv\t2\t0\t0\t9\nv\t3\t3\t5\t1\n";
-
-/// A job text.
-pub fn text(n: usize, triangles: &[u16], weights: &[i64]) -> String {
-    let mut text = format!("pack-map\t{n}\n");
-    for t in triangles.chunks_exact(3) {
-        text += &format!("t\t{}\t{}\t{}\n", t[0], t[1], t[2]);
-    }
-    for w in weights {
-        text += &format!("w\t{w}\n");
-    }
-    text
-}
 
 /// Coordinates of the tetra's weights: vertex 3 is at (w2, w1, w3).
 pub fn tetra_coordinates(w: [i64; 3]) -> Vec<i64> {
