@@ -59,9 +59,9 @@ justBelow = ofBits binary64 0x8000_0000_0000_0001
 abbrev pub two : Float
 two = ofBits binary64 0x4000_0000_0000_0000
 
--- scale 0, and the scales from 4 to 24
+-- the scales from 4 to 24; 0 stands for one of them
 abbrev scales : List ℕ
-scales = 0 ∷ 4 ∷ 5 ∷ 6 ∷ 7 ∷ 8 ∷ 9 ∷ 10 ∷ 11 ∷ 12 ∷ 13 ∷ 14 ∷ 15 ∷ 16 ∷ 17 ∷ 18 ∷ 19 ∷ 20 ∷ 21 ∷ 22 ∷ 23 ∷ 24 ∷ []
+scales = 4 ∷ 5 ∷ 6 ∷ 7 ∷ 8 ∷ 9 ∷ 10 ∷ 11 ∷ 12 ∷ 13 ∷ 14 ∷ 15 ∷ 16 ∷ 17 ∷ 18 ∷ 19 ∷ 20 ∷ 21 ∷ 22 ∷ 23 ∷ 24 ∷ []
 
 -- the coordinates of the tetra's weights a, b, c: the inner vertex has (b, a, c)
 abbrev pub tetraAt : ℤ → ℤ → ℤ → ℤ → List ℤ
@@ -148,7 +148,7 @@ P9 = (snap 4 half ≡ whole (pos 8)) × (snap 4 minusZero ≡ whole (pos 0))
 
 -- at every scale
 abbrev pub P10 : Type 0
-P10 = map (λ r. snap r justBelow) scales ≡ replicate 22 (whole (minus 1))
+P10 = map (λ r. snap r justBelow) scales ≡ replicate 21 (whole (minus 1))
 
 abbrev pub P11 : Type 0
 P11 = snap 24 two ≡ whole (pos 33_554_432)

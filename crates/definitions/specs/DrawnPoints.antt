@@ -11,9 +11,10 @@ use Rattle.definitions.specs.Answers.{Answer, done, refused, numbered, s
 abbrev pub defaultScale : ℕ
 defaultScale = 16
 
-unfoldable pub effectiveScale : ℕ → ℕ
-effectiveScale zero = defaultScale
-effectiveScale (suc r) = suc r
+-- the scale r that a call works with, where scale 0 stands for `usual`
+unfoldable pub effectiveScale : ℕ → ℕ → ℕ
+effectiveScale usual zero = usual
+effectiveScale usual (suc r) = suc r
 
 -- a scale is 0 or runs from 4 to 24
 unfoldable pub scaleAllowed : ℕ → Bool
@@ -32,16 +33,16 @@ pub data Snap : Type 0 where
 
 -- A share at scale r. A finite f64 is the number ± m * 2 ^ e, that is ± m * up e / down e. A share outside -2 to 2 is refused.
 unfoldable pub snap : ℕ → Float → Snap
-unfolding effectiveScale floor
+unfolding floor
 snap r nan = notFinite
 snap r (inf s) = notFinite
 snap r (fin s m e) =
-    cond (ltb (2 * down e) (m * up e)) (beyond (fin s m e)) (whole (floor s (m * up e * 2 ^ effectiveScale r) (down e)))
+    cond (ltb (2 * down e) (m * up e)) (beyond (fin s m e)) (whole (floor s (m * up e * 2 ^ r) (down e)))
 
 -- Shares in order, two to a point, the share x of v0 before the share y of v1: the coordinates (kx, ky, 2 ^ r - kx - ky) of each point,
 -- or the refusal of the first share that is refused.
 unfoldable pub snapAll : ℕ → List Float → Answer (List ℤ)
-unfolding snap effectiveScale
+unfolding snap
 snapAll r [] = done []
 snapAll r (x ∷ []) = done []
 snapAll r (x ∷ y ∷ shares) =
@@ -55,7 +56,7 @@ snapAll r (x ∷ y ∷ shares) =
             | whole ky ↦
                 elim (snapAll r shares) [
                   | refused why ↦ refused why
-                  | done bs ↦ done (kx ∷ ky ∷ (pos (2 ^ effectiveScale r) -ℤ kx -ℤ ky) ∷ bs)
+                  | done bs ↦ done (kx ∷ ky ∷ (pos (2 ^ r) -ℤ kx -ℤ ky) ∷ bs)
                 ]
           ]
     ]

@@ -18,7 +18,7 @@ use Rattle.definitions.specs.Labels.{outer, labels}
 use Rattle.definitions.specs.Forward.{forward}
 use Rattle.definitions.specs.Backward.{coordinate, backward}
 use Rattle.definitions.specs.Repair.{limit, Ending, finished, stopped, outOfFuel, repair}
-use Rattle.definitions.specs.DrawnPoints.{scaleAllowed, snapAll}
+use Rattle.definitions.specs.DrawnPoints.{defaultScale, effectiveScale, scaleAllowed, snapAll}
 
 -- ---- the rows
 
@@ -191,19 +191,24 @@ pub record Snapped : Type 0 where
   pub answer : Answer (Unit {0})
   pub coordinates : List ℤ
 
-unfoldable pub snapCall : ℕ → List Float → ℕ → List ℤ → Snapped
-unfolding row1 row2 firstRefusal scaleAllowed snapAll
-snapCall n shares r bs =
+-- where scale 0 stands for `usual`
+unfoldable pub snapCallWhereZeroIs : ℕ → ℕ → List Float → ℕ → List ℤ → Snapped
+unfolding row1 row2 firstRefusal scaleAllowed effectiveScale snapAll
+snapCallWhereZeroIs usual n shares scale bs =
     let lent = slice (length shares) (pointsLength n) ∷ slice (length bs) (coordinatesLength n) ∷ [] in
-    let rows = row 1 (λ _. row1 mostVertices n) ∷ row 2 (λ _. row2 lent) ∷ row 14 (λ _. not (scaleAllowed r)) ∷ [] in
+    let rows = row 1 (λ _. row1 mostVertices n) ∷ row 2 (λ _. row2 lent) ∷ row 14 (λ _. not (scaleAllowed scale)) ∷ [] in
     elim (firstRefusal rows) [
       | some k ↦ record { answer = refused (numbered k); coordinates = bs }
       | none ↦
-          elim (snapAll r shares) [
+          elim (snapAll (effectiveScale usual scale) shares) [
             | refused why ↦ record { answer = refused why; coordinates = bs }
             | done new ↦ record { answer = done tt; coordinates = new }
           ]
     ]
+
+unfoldable pub snapCall : ℕ → List Float → ℕ → List ℤ → Snapped
+unfolding snapCallWhereZeroIs
+snapCall n shares scale bs = snapCallWhereZeroIs defaultScale n shares scale bs
 
 -- ---- what is accepted
 

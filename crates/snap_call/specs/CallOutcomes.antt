@@ -4,48 +4,21 @@ use mathlib.Core.Path.{_≡_, refl, sym, ap, _∙_}
 use mathlib.Core.Logic.{inl, inr}
 use mathlib.Core.Bool.{Bool, true, false, not}
 use mathlib.Core.List.{List, [], _∷_}
-use mathlib.Core.Option.{Option, none, some}
+use mathlib.Core.Option.{none}
 use lib.IntN.{ℤ}
 use lib.Ieee.{Float}
-use lib.ListN.{length}
 use Rattle.definitions.specs.Answers.{Refusal, numbered, Answer, done, refused}
 use Rattle.definitions.specs.Mesh.{pointsLength, coordinatesLength}
-use Rattle.definitions.specs.DrawnPoints.{scaleAllowed, snapAll}
+use Rattle.definitions.specs.DrawnPoints.{defaultScale, effectiveScale, scaleAllowed, snapAll}
 use Rattle.definitions.specs.Refusals.{row1, row2, mostVertices, Slice, slice, Snapped, snapCall}
 use Rattle.laws.specs.Lists.{tested}
 use Rattle.theory_sphere.specs.FirstRefusal.{row2-cons}
 use Rattle.lent_slices.specs.Lengths.{firstRows, first-0, first-1, first-2, none-found}
+use Rattle.snap_model.specs.Call.{slices, found, outcome, call}
 use Rattle.snap_model.specs.Points.{settled, new, not-refused}
 use Rattle.snap_call.specs.Answer.{snapToAnswer}
 use Rattle.snap_call.specs.declared.SnapAnswer.{SnapAnswer}
 use Rattle.snap_call.specs.declared.SnapAnswer.the-variants.{Done}
-
--- the first of three rows that finds something, and what comes of it
-unfoldable found : Bool → Bool → Bool → Option ℕ
-found a b c =
-    elim a [
-      | true ↦ some 1
-      | false ↦ elim b [ true ↦ some 2 | false ↦ elim c [ true ↦ some 14 | false ↦ none ] ]
-    ]
-
-unfoldable outcome : Option ℕ → Answer (List ℤ) → List ℤ → Snapped
-outcome f w bs =
-    elim f [
-      | some k ↦ record { answer = refused (numbered k); coordinates = bs }
-      | none ↦
-          elim w [
-            | refused why ↦ record { answer = refused why; coordinates = bs }
-            | done new ↦ record { answer = done tt; coordinates = new }
-          ]
-    ]
-
--- the call, in these words
-call : (n : ℕ) (shares : List Float) (r : ℕ) (bs : List ℤ)
-    → snapCall n shares r bs
-    ≡ outcome (found (row1 mostVertices n) (row2 (slice (length shares) (pointsLength n) ∷ slice (length bs) (coordinatesLength n) ∷ []))
-    (not (scaleAllowed r))) (snapAll r shares) bs
-unfolding snapCall found outcome
-call n shares r bs = refl
 
 -- ---- the call
 
@@ -60,19 +33,23 @@ unfolding outcome
 is-done (refused why) bs h = absurd (not-refused why h)
 is-done (done cs) bs h = refl
 
-module _ (n : ℕ) (shares : List Float) (r : ℕ) (bs : List ℤ) where
+module _ (n : ℕ) (shares : List Float) (scale : ℕ) (bs : List ℤ) where
   -- it answers a, and leaves cs in the coordinates
   abbrev pub Gives : Answer (Unit {0}) → List ℤ → Type 0
-  Gives a cs = (a ≡ snapCall n shares r bs .answer) × (cs ≡ snapCall n shares r bs .coordinates)
+  Gives a cs = (a ≡ snapCall n shares scale bs .answer) × (cs ≡ snapCall n shares scale bs .coordinates)
 
-  gives : (o : Snapped) → snapCall n shares r bs ≡ o → Gives (o .answer) (o .coordinates)
+  gives : (o : Snapped) → snapCall n shares scale bs ≡ o → Gives (o .answer) (o .coordinates)
   gives o e = (ap (λ (s : Snapped). s .answer) (sym e), ap (λ (s : Snapped). s .coordinates) (sym e))
 
   abbrev same : Refusal → Snapped
   same why = record { answer = refused why; coordinates = bs }
 
   abbrev lent : List Slice
-  lent = slice (length shares) (pointsLength n) ∷ slice (length bs) (coordinatesLength n) ∷ []
+  lent = slices n shares bs
+
+  in-parts : snapCall n shares scale bs
+      ≡ outcome (found (row1 mostVertices n) (row2 lent) (not (scaleAllowed scale))) (snapAll (effectiveScale defaultScale scale) shares) bs
+  in-parts = unfold snapCall in call defaultScale n shares scale bs
 
   -- k is what rows 1 and 2 find
   module _ (k : ℕ) (e : k ≡ firstRows n lent) where
@@ -81,11 +58,11 @@ module _ (n : ℕ) (shares : List Float) (r : ℕ) (bs : List ℤ) where
         elim (tested (row1 mostVertices n)) [
           | inl g ↦
               let z : k ≡ 1 = e ∙ sym (first-1 n lent g) in
-              rw z (gives (same (numbered 1)) (rw (call n shares r bs, g) (unfold found outcome in refl)))
+              rw z (gives (same (numbered 1)) (rw (in-parts, g) (unfold found outcome in refl)))
           | inr g ↦ elim (tested (row2 lent)) [
             | inl h ↦
                 let z : k ≡ 2 = e ∙ sym (first-2 n lent g h) in
-                rw z (gives (same (numbered 2)) (rw (call n shares r bs, g, h) (unfold found outcome in refl)))
+                rw z (gives (same (numbered 2)) (rw (in-parts, g, h) (unfold found outcome in refl)))
             | inr h ↦ absurd (f (e ∙ sym (first-0 n lent g h)))
           ]
         ]
@@ -93,15 +70,16 @@ module _ (n : ℕ) (shares : List Float) (r : ℕ) (bs : List ℤ) where
     -- they find nothing
     module _ (z : k ≡ 0) where
       -- row 14
-      pub gives-scale : scaleAllowed r ≡ false → Gives (refused (numbered 14)) bs
+      pub gives-scale : scaleAllowed scale ≡ false → Gives (refused (numbered 14)) bs
       gives-scale g =
           let f = none-found n lent k e z in
-          gives (same (numbered 14)) (rw (call n shares r bs, f .0, f .1, g) (unfold found outcome in refl))
+          gives (same (numbered 14)) (rw (in-parts, f .0, f .1, g) (unfold found outcome in refl))
 
       -- the points decide, and a is what is found of them
-      module _ (g : scaleAllowed r ≡ true) (a : SnapAnswer) (h : snapToAnswer a ≡ settled (snapAll r shares)) where
-        decided : snapCall n shares r bs ≡ outcome none (snapAll r shares) bs
-        decided = let f = none-found n lent k e z in rw (call n shares r bs, f .0, f .1, g) (unfold found in refl)
+      module _ (g : scaleAllowed scale ≡ true) (r : ℕ) (i : r ≡ effectiveScale defaultScale scale) (a : SnapAnswer)
+          (h : snapToAnswer a ≡ settled (snapAll r shares)) where
+        decided : snapCall n shares scale bs ≡ outcome none (snapAll r shares) bs
+        decided = let f = none-found n lent k e z in rw (in-parts, f .0, f .1, g, ← i) (unfold found in refl)
 
         -- the first that is refused is answered, and the coordinates stay as lent
         pub gives-refusal : (snapToAnswer a ≡ done tt → ⊥) → Gives (snapToAnswer a) bs
@@ -126,8 +104,8 @@ module _ (n m p k : ℕ) (e : k ≡ firstRows n (slice m (pointsLength n) ∷ sl
   coordinates-long = row2-cons p (coordinatesLength n) [] .0 (shares-first .1) .0
 
 -- what the tests found, for the calls after them
-pub scale-found : (r : ℕ) (a b : Bool) → a ≡ scaleAllowed r → a ≡ b → scaleAllowed r ≡ b
-scale-found r a b e g = sym e ∙ g
+pub scale-found : (scale : ℕ) (a b : Bool) → a ≡ scaleAllowed scale → a ≡ b → scaleAllowed scale ≡ b
+scale-found scale a b e g = sym e ∙ g
 
 pub none-refused : (w : Answer (List ℤ)) (a : SnapAnswer) → snapToAnswer a ≡ settled w → a ≡ Done → settled w ≡ done tt
 none-refused w a e g = sym e ∙ ap snapToAnswer g

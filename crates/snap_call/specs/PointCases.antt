@@ -2,7 +2,6 @@
 use Prim.Native.Nat.{ℕ, suc, _+_, _*_, _^_, _≤_, _<_}
 use native.Mathlib.Omega.{arith}
 use mathlib.Core.Path.{_≡_, refl, sym, ap, _∙_}
-use mathlib.Core.Bool.{true}
 use mathlib.Core.List.{List, [], _∷_}
 use lib.IntN.{ℤ, pos, natAbs, _-ℤ_}
 use lib.Signed.{mag}
@@ -13,7 +12,7 @@ use mir.Syntax.{w64}
 use mir.Val.{toZ, ofZ}
 use mir.Facts.{toZ-ofZ}
 use Rattle.definitions.specs.Answers.{Answer, done, refused, numbered, shareOutside}
-use Rattle.definitions.specs.DrawnPoints.{effectiveScale, scaleAllowed, snap, snapAll}
+use Rattle.definitions.specs.DrawnPoints.{snap, snapAll}
 use Rattle.int64.specs.Whole.{fits-abs, held, held-size}
 use Rattle.snap_model.specs.Share.{snap-bound}
 use Rattle.snap_model.specs.Points.{
@@ -41,7 +40,7 @@ use Rattle.snap_call.specs.declared.PointAnswer.the-variants.{At, NotFin
 
 -- ---- one point; a and b are the answers of its shares x and y
 
-module _ (r : ℕ) (x : Float) (a : ShareAnswer) (e : shareToSnap a ≡ snap r x) (k : ℤ) (h : a ≡ Whole k) (s : scaleAllowed r ≡ true) where
+module _ (r : ℕ) (x : Float) (a : ShareAnswer) (e : shareToSnap a ≡ snap r x) (k : ℤ) (h : a ≡ Whole k) (s : r ≤ 24) where
   bound : natAbs k ≤ 2 ^ 25
   bound = snap-bound r x k s (sym e ∙ ap shareToSnap h)
 
@@ -65,11 +64,11 @@ module _ (r : ℕ) (x y : Float) (a : ShareAnswer) (e : shareToSnap a ≡ snap r
     pub y-outside : (share : Float) → b ≡ Outside share → refused (shareOutside share) ≡ snapAll r (x ∷ y ∷ [])
     y-outside share g = sym (second-beyond r x y kx (sym e ∙ ap shareToSnap h) share (sym f ∙ ap shareToSnap g))
 
-    pub both-inside : (ky kz : ℤ) (d : ℕ) → b ≡ Whole ky → d ≡ effectiveScale r → kz ≡ pos (2 ^ d) -ℤ toZ w64 (ofZ w64 kx) -ℤ toZ w64 (ofZ w64 ky) →
-        mag kz < 2 ^ 63 → scaleAllowed r ≡ true →
+    pub both-inside : (ky kz : ℤ) → b ≡ Whole ky → kz ≡ pos (2 ^ r) -ℤ toZ w64 (ofZ w64 kx) -ℤ toZ w64 (ofZ w64 ky) →
+        mag kz < 2 ^ 63 → r ≤ 24 →
         done (toZ w64 (ofZ w64 kx) ∷ toZ w64 (ofZ w64 ky) ∷ toZ w64 (ofZ w64 kz) ∷ []) ≡ snapAll r (x ∷ y ∷ [])
-    both-inside ky kz d g i j m s =
-        rw (held kz m, j, i, share-held r x a e kx h s, share-held r y b f ky g s)
+    both-inside ky kz g j m s =
+        rw (held kz m, j, share-held r x a e kx h s, share-held r y b f ky g s)
         (sym (both-whole r x y kx (sym e ∙ ap shareToSnap h) ky (sym f ∙ ap shareToSnap g)))
 
 -- ---- looking: i of n points are passed

@@ -1,4 +1,4 @@
--- One share as the code meets it: its scale, a whole number from its bits, and the tests in the code's order. Assumes nothing.
+-- One share as the code meets it: the exact scale, a whole number from its bits, and the tests in the code's order. Assumes nothing.
 use Prim.Native.Nat.{ℕ, zero, suc, _+_, _-_, _*_, _%_, _^_, _≤_, _<_}
 use native.Mathlib.Omega.{arith}
 use native.Mathlib.Nat.{one-mul, mod-eq-of-lt}
@@ -14,25 +14,26 @@ use lib.Ieee.Compare.{differs-from-itself, nan-differs}
 use mir.Syntax.{w64}
 use mir.Val.{SFits, toZ, ofZ}
 use mir.Facts.{toZ-ofZ, toZ-pos}
-use Rattle.definitions.specs.DrawnPoints.{effectiveScale, scaleAllowed, floor, whole, notFinite, beyond, snap}
+use Rattle.definitions.specs.DrawnPoints.{defaultScale, effectiveScale, scaleAllowed, floor, whole, notFinite, beyond, snap}
 use Rattle.int64.specs.Whole.{held, held-size}
+use Rattle.snap_model.specs.Scales.{scale-most}
 use Rattle.snap_model.specs.Bits.{units, unitsOf, field, negative}
 use Rattle.snap_model.specs.Floor.{signed, floor-shift, floor-small}
-use Rattle.snap_model.specs.Share.{endless, inside, inside-finite, snap-endless, snap-far, share-field, share-whole, scale-most, floor-digits}
+use Rattle.snap_model.specs.Share.{endless, inside, inside-finite, snap-endless, snap-far, share-field, share-whole, floor-digits}
 
 -- ---- the scale
 
-pub scale-zero : (r : ℕ) → r ≡ 0 → 16 ≡ effectiveScale r
+pub scale-zero : (scale : ℕ) → scale ≡ 0 → defaultScale ≡ effectiveScale defaultScale scale
 unfolding effectiveScale
-scale-zero r e = rw e
+scale-zero scale e = rw e
 
-pub scale-other : (r : ℕ) → (r ≡ 0 → ⊥) → r ≡ effectiveScale r
+pub scale-other : (scale : ℕ) → (scale ≡ 0 → ⊥) → scale ≡ effectiveScale defaultScale scale
 unfolding effectiveScale
 scale-other zero h = absurd (h refl)
 scale-other (suc r) h = refl
 
-pub scale-bound : (r e : ℕ) → e ≡ effectiveScale r → scaleAllowed r ≡ true → e ≤ 24
-scale-bound r e f h = rw f (scale-most r h)
+pub scale-bound : (scale r : ℕ) → r ≡ effectiveScale defaultScale scale → scaleAllowed scale ≡ true → r ≤ 24
+scale-bound scale r e h = rw e (scale-most defaultScale scale (omega arith) h)
 
 -- 2 ^ r as the code makes it
 power : (r : ℕ) → r ≤ 24 → 1 * 2 ^ r % 2 ^ 64 ≡ 2 ^ r
@@ -126,10 +127,10 @@ module _ (x : Float) (a : Bool) (e : a ≡ inside x) where
       pub inside-field : field (toBits binary64 x) ≤ 1024
       inside-field = share-field 0 (toBits binary64 x) x from-bits (sym e ∙ h)
 
-      pub inside-whole : (r d : ℕ) (k : ℤ) → d ≡ effectiveScale r →
-          k ≡ floor (negative (toBits binary64 x)) (units (toBits binary64 x) * 2 ^ d) (2 ^ 1074) → mag k < 2 ^ 63 →
+      pub inside-whole : (r : ℕ) (k : ℤ) →
+          k ≡ floor (negative (toBits binary64 x)) (units (toBits binary64 x) * 2 ^ r) (2 ^ 1074) → mag k < 2 ^ 63 →
           whole (toZ w64 (ofZ w64 k)) ≡ snap r x
-      inside-whole r d k g i m = rw (held k m, i, g) (sym (share-whole r (toBits binary64 x) x from-bits (sym e ∙ h)))
+      inside-whole r k i m = rw (held k m, i) (sym (share-whole r (toBits binary64 x) x from-bits (sym e ∙ h)))
 
   pub outside-far : (r : ℕ) (b : Bool) → a ≡ false → b ≡ endless x → b ≡ false → beyond x ≡ snap r x
   outside-far r b h f g = sym (snap-far r x (sym f ∙ g) (sym e ∙ h))

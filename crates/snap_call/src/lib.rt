@@ -28,7 +28,7 @@ pub enum ShareAnswer {
 const USUAL_SCALE: u32 = 16;
 
 fn exact_scale(scale: u32) -> u32
-    ensures { λ r. ⌜ r ≡ Drawn.effectiveScale scale ⌝ }
+    ensures { λ r. ⌜ r ≡ Drawn.effectiveScale Drawn.defaultScale scale ⌝ }
 {
     if scale == 0 { USUAL_SCALE } else { scale }
 }
@@ -107,13 +107,13 @@ fn inside(share: f64) -> bool
     false
 }
 
-// A share at an allowed scale: of those that are not from -2 to 2, 15 goes before 16.
-fn snap_share(share: f64, scale: u32) -> ShareAnswer
-    requires { ⌜ Drawn.scaleAllowed scale ≡ true ⌝ }
-    ensures { λ r. ⌜ shareToSnap r ≡ Drawn.snap scale share ⌝ }
+// A share at an exact scale r: of those that are not from -2 to 2, 15 goes before 16.
+fn snap_share(share: f64, r: u32) -> ShareAnswer
+    requires { ⌜ r ≤ 24 ⌝ }
+    ensures { λ a. ⌜ shareToSnap a ≡ Drawn.snap r share ⌝ }
 {
     if inside(share) {
-        return ShareAnswer::Whole(snap_bits(f64::to_bits(share), exact_scale(scale) as u64));
+        return ShareAnswer::Whole(snap_bits(f64::to_bits(share), r as u64));
     }
     if not_finite(share) {
         return ShareAnswer::NotFinite;
@@ -143,22 +143,18 @@ pub enum PointAnswer {
     Outside(f64),
 }
 
-// A point at an allowed scale, x before y.
-fn snap_point(point: Point, scale: u32) -> PointAnswer
-    requires { ⌜ Drawn.scaleAllowed scale ≡ true ⌝ }
-    ensures { λ r. ⌜ pointToAnswer r ≡ Drawn.snapAll scale (point .x ∷ point .y ∷ []) ⌝ }
+// A point at an exact scale r, x before y.
+fn snap_point(point: Point, r: u32) -> PointAnswer
+    requires { ⌜ r ≤ 24 ⌝ }
+    ensures { λ a. ⌜ pointToAnswer a ≡ Drawn.snapAll r (point .x ∷ point .y ∷ []) ⌝ }
 {
-    match snap_share(point.x, scale) {
+    match snap_share(point.x, r) {
         ShareAnswer::NotFinite => PointAnswer::NotFinite,
         ShareAnswer::Outside(share) => PointAnswer::Outside(share),
-        ShareAnswer::Whole(kx) => match snap_share(point.y, scale) {
+        ShareAnswer::Whole(kx) => match snap_share(point.y, r) {
             ShareAnswer::NotFinite => PointAnswer::NotFinite,
             ShareAnswer::Outside(share) => PointAnswer::Outside(share),
-            ShareAnswer::Whole(ky) => PointAnswer::At(
-                kx,
-                ky,
-                third_coordinate(kx, ky, exact_scale(scale)),
-            ),
+            ShareAnswer::Whole(ky) => PointAnswer::At(kx, ky, third_coordinate(kx, ky, r)),
         },
     }
 }
@@ -194,13 +190,13 @@ fn point_at(shares: &[f64], i: usize) -> Point
 }
 
 // Looks at the points in order and writes nothing.
-fn find_refusal(n: usize, shares: &[f64], scale: u32) -> SnapAnswer
-    requires { ⌜ (Drawn.scaleAllowed scale ≡ true) × (length (now shares) ≡ 2 * n) ⌝ }
-    ensures { λ r. ⌜ snapToAnswer r ≡ settled (Drawn.snapAll scale (now (shares .entry))) ⌝ }
+fn find_refusal(n: usize, shares: &[f64], r: u32) -> SnapAnswer
+    requires { ⌜ (r ≤ 24) × (length (now shares) ≡ 2 * n) ⌝ }
+    ensures { λ a. ⌜ snapToAnswer a ≡ settled (Drawn.snapAll r (now (shares .entry))) ⌝ }
 {
     let mut i = 0;
     while i < n {
-        match snap_point(point_at(shares, i), scale) {
+        match snap_point(point_at(shares, i), r) {
             PointAnswer::NotFinite => {
                 return SnapAnswer::Refused(15);
             }
@@ -216,11 +212,11 @@ fn find_refusal(n: usize, shares: &[f64], scale: u32) -> SnapAnswer
 }
 
 // Writes the three coordinates of a point that is not refused.
-fn write_point(point: Point, scale: u32, coordinates: &mut [i64], at: usize)
-    requires { ⌜ (Drawn.scaleAllowed scale ≡ true) × (at + 3 ≤ length (now coordinates)) ⌝ }
-    ensures { λ _. ⌜ now (coordinates .exit) ≡ sets (now (coordinates .entry)) at (new (Drawn.snapAll scale (point .x ∷ point .y ∷ []))) ⌝ }
+fn write_point(point: Point, r: u32, coordinates: &mut [i64], at: usize)
+    requires { ⌜ (r ≤ 24) × (at + 3 ≤ length (now coordinates)) ⌝ }
+    ensures { λ _. ⌜ now (coordinates .exit) ≡ sets (now (coordinates .entry)) at (new (Drawn.snapAll r (point .x ∷ point .y ∷ []))) ⌝ }
 {
-    let PointAnswer::At(kx, ky, kz) = snap_point(point, scale) else {
+    let PointAnswer::At(kx, ky, kz) = snap_point(point, r) else {
         return;
     };
     coordinates[at] = kx;
@@ -229,14 +225,14 @@ fn write_point(point: Point, scale: u32, coordinates: &mut [i64], at: usize)
 }
 
 // Writes the coordinates of points of which none is refused.
-fn write_points(n: usize, shares: &[f64], scale: u32, coordinates: &mut [i64])
-    requires { ⌜ (Drawn.scaleAllowed scale ≡ true) × (length (now shares) ≡ 2 * n) × (length (now coordinates) ≡ 3 * n)
-        × (settled (Drawn.snapAll scale (now shares)) ≡ done tt) ⌝ }
-    ensures { λ _. ⌜ now (coordinates .exit) ≡ new (Drawn.snapAll scale (now (shares .entry))) ⌝ }
+fn write_points(n: usize, shares: &[f64], r: u32, coordinates: &mut [i64])
+    requires { ⌜ (r ≤ 24) × (length (now shares) ≡ 2 * n) × (length (now coordinates) ≡ 3 * n)
+        × (settled (Drawn.snapAll r (now shares)) ≡ done tt) ⌝ }
+    ensures { λ _. ⌜ now (coordinates .exit) ≡ new (Drawn.snapAll r (now (shares .entry))) ⌝ }
 {
     let mut i = 0;
     while i < n {
-        write_point(point_at(shares, i), scale, &mut *coordinates, 3 * i);
+        write_point(point_at(shares, i), r, &mut *coordinates, 3 * i);
         i += 1;
     }
 }
@@ -251,11 +247,12 @@ pub fn snap_points(n: usize, shares: &[f64], scale: u32, coordinates: &mut [i64]
         return SnapAnswer::Refused(number);
     }
     if scale_allowed(scale) {
-        let found = find_refusal(n, shares, scale);
+        let r = exact_scale(scale);
+        let found = find_refusal(n, shares, r);
         let SnapAnswer::Done = found else {
             return found;
         };
-        write_points(n, shares, scale, coordinates);
+        write_points(n, shares, r, coordinates);
         return SnapAnswer::Done;
     }
     SnapAnswer::Refused(14)

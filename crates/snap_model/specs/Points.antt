@@ -8,7 +8,7 @@ use lib.Ieee.{Float, nan}
 use lib.ListN.{length, getD, take, drop, drop-of-length-le, length-append}
 use lib.Seq.{drop-cons, sets, sets-eq, take-at, take-all, length-take-le}
 use Rattle.definitions.specs.Answers.{Refusal, numbered, shareOutside, Answer, done, refused}
-use Rattle.definitions.specs.DrawnPoints.{effectiveScale, Snap, whole, notFinite, beyond, snap, snapAll}
+use Rattle.definitions.specs.DrawnPoints.{Snap, whole, notFinite, beyond, snap, snapAll}
 
 -- what two shares' answers and the answer of the points after them come to
 unfoldable point : ℕ → Snap → Snap → Answer (List ℤ) → Answer (List ℤ)
@@ -23,7 +23,7 @@ point r u v w =
             | whole ky ↦
                 elim w [
                   | refused why ↦ refused why
-                  | done bs ↦ done (kx ∷ ky ∷ (pos (2 ^ effectiveScale r) -ℤ kx -ℤ ky) ∷ bs)
+                  | done bs ↦ done (kx ∷ ky ∷ (pos (2 ^ r) -ℤ kx -ℤ ky) ∷ bs)
                 ]
           ]
     ]
@@ -53,7 +53,7 @@ module _ (r : ℕ) (x y : Float) where
     second-beyond share f = rw (one, e, f) (unfold point in refl)
 
     pub both-whole : (ky : ℤ) → snap r y ≡ whole ky →
-        snapAll r (x ∷ y ∷ []) ≡ done (kx ∷ ky ∷ (pos (2 ^ effectiveScale r) -ℤ kx -ℤ ky) ∷ [])
+        snapAll r (x ∷ y ∷ []) ≡ done (kx ∷ ky ∷ (pos (2 ^ r) -ℤ kx -ℤ ky) ∷ [])
     both-whole ky f = rw (one, e, f) (unfold point in refl)
 
 -- ---- a point and those after it

@@ -12,8 +12,8 @@ use lib.IntN.{ℤ, pos, natAbs}
 use lib.Ieee.{Float, nan, inf, fin, up, down, binary64, top, hid, ofBits, lt, eq, le}
 use lib.Ieee.Fits.{down-pos}
 use lib.Ieee.Exact.{HasValue}
-use borrow.Author.Tests.{leb-true, leb-false, eqb-true, lt-ltb, le-ltb, le-leb, lt-leb, eq-eqb, ne-eqb}
-use Rattle.definitions.specs.DrawnPoints.{floor, effectiveScale, scaleAllowed, whole, notFinite, beyond, snap}
+use borrow.Author.Tests.{leb-true, leb-false, lt-ltb, le-ltb, le-leb, lt-leb, eq-eqb, ne-eqb}
+use Rattle.definitions.specs.DrawnPoints.{floor, whole, notFinite, beyond, snap}
 use Rattle.snap_model.specs.Floor.{Below, floor-below, floor-only, floor-same, floor-size}
 use Rattle.snap_model.specs.Bits.{units, unitsOf, negative, field, value, Special, no-number, infinite, special}
 
@@ -23,11 +23,11 @@ use Rattle.snap_model.specs.Bits.{units, unitsOf, negative, field, value
 abbrev pub Lies : ℕ → Float → ℤ → Type 0
 Lies r nan k = ⊥
 Lies r (inf s) k = ⊥
-Lies r (fin s m e) k = Below s (m * up e * 2 ^ effectiveScale r) (down e) k
+Lies r (fin s m e) k = Below s (m * up e * 2 ^ r) (down e) k
 
 -- A finite share from -2 to 2 becomes a whole number,
 pub snap-inside : (r : ℕ) (s : Bool) (m : ℕ) (e : ℤ) → m * up e ≤ 2 * down e
-    → snap r (fin s m e) ≡ whole (floor s (m * up e * 2 ^ effectiveScale r) (down e))
+    → snap r (fin s m e) ≡ whole (floor s (m * up e * 2 ^ r) (down e))
 unfolding snap
 snap-inside r s m e h = rw (le-ltb (2 * down e) (m * up e) h)
 
@@ -49,27 +49,27 @@ snap-small r s m e k h =
       | no l ↦ absurd (apart (fin s m e) k (sym (snap-outside r s m e (omega arith)) ∙ h))
     ]
 
-snap-floor : (r : ℕ) (s : Bool) (m : ℕ) (e k : ℤ) → snap r (fin s m e) ≡ whole k → k ≡ floor s (m * up e * 2 ^ effectiveScale r) (down e)
+snap-floor : (r : ℕ) (s : Bool) (m : ℕ) (e k : ℤ) → snap r (fin s m e) ≡ whole k → k ≡ floor s (m * up e * 2 ^ r) (down e)
 snap-floor r s m e k h = cc (snap-inside r s m e (snap-small r s m e k h))
 
 -- What a share becomes lies at or below share × 2 ^ r, by less than 1,
 pub snap-lies : (r : ℕ) (x : Float) (k : ℤ) → snap r x ≡ whole k → Lies r x k
 snap-lies r nan k h = not-whole k (unfold snap in h)
 snap-lies r (inf s) k h = not-whole k (unfold snap in h)
-snap-lies r (fin s m e) k h = rw (snap-floor r s m e k h) (floor-below s (m * up e * 2 ^ effectiveScale r) (down e) (down-pos e))
+snap-lies r (fin s m e) k h = rw (snap-floor r s m e k h) (floor-below s (m * up e * 2 ^ r) (down e) (down-pos e))
 
 -- and is the only whole number that does.
 pub snap-only : (r : ℕ) (x : Float) (k j : ℤ) → snap r x ≡ whole k → Lies r x j → j ≡ k
 snap-only r nan k j h w = absurd w
 snap-only r (inf s) k j h w = absurd w
 snap-only r (fin s m e) k j h w =
-    floor-only s (m * up e * 2 ^ effectiveScale r) (down e) j (down-pos e) w ∙ sym (snap-floor r s m e k h)
+    floor-only s (m * up e * 2 ^ r) (down e) j (down-pos e) w ∙ sym (snap-floor r s m e k h)
 
 -- So for a share from -2 to 2 there is exactly one k with k ≤ share × 2 ^ r < k + 1, and the share becomes it.
 pub snap-exact : (r : ℕ) (s : Bool) (m : ℕ) (e : ℤ) → m * up e ≤ 2 * down e
     → (k : ℤ) × (snap r (fin s m e) ≡ whole k) × Lies r (fin s m e) k × ((j : ℤ) → Lies r (fin s m e) j → j ≡ k)
 snap-exact r s m e h =
-    let k = floor s (m * up e * 2 ^ effectiveScale r) (down e) in
+    let k = floor s (m * up e * 2 ^ r) (down e) in
     let is = snap-inside r s m e h in
     (k, is, snap-lies r (fin s m e) k is, (λ j w. snap-only r (fin s m e) k j is w))
 
@@ -77,13 +77,13 @@ snap-exact r s m e h =
 
 -- A share of a / c, at most 2 in size
 pub snap-value : (r : ℕ) (x : Float) (s : Bool) (a c : ℕ) → 0 < c → HasValue x s a c → a ≤ 2 * c →
-    snap r x ≡ whole (floor s (a * 2 ^ effectiveScale r) c)
+    snap r x ≡ whole (floor s (a * 2 ^ r) c)
 snap-value r nan s a c h v l = absurd v
 snap-value r (inf t) s a c h v l = absurd v
 snap-value r (fin t m e) s a c h v l =
     let b = m * up e in
     let d = down e in
-    let p = 2 ^ effectiveScale r in
+    let p = 2 ^ r in
     let small : b * c ≤ 2 * d * c = omega (arith, v .1, mul-le-mul-right d l, mul-right-comm 2 c d) in
     let same : b * p * c ≡ a * p * d = mul-right-comm b p c ∙ ap (λ (z : ℕ). z * p) (v .1) ∙ mul-right-comm a d p in
     snap-inside r t m e (le-of-mul-le-mul-right small h)
@@ -231,29 +231,19 @@ module _ (r n : ℕ) (x : Float) (is : ofBits binary64 n ≡ x) (l : inside x �
   pub share-field : field n ≤ 1024
   share-field = field-inside n share-size
 
-  pub share-whole : snap r x ≡ whole (floor (negative n) (units n * 2 ^ effectiveScale r) (2 ^ 1074))
+  pub share-whole : snap r x ≡ whole (floor (negative n) (units n * 2 ^ r) (2 ^ 1074))
   share-whole = snap-value r x (negative n) (units n) (2 ^ 1074) (pow-pos 1074) share-value share-size
 
--- A scale that is allowed stands for 24 at most.
-pub scale-most : (r : ℕ) → scaleAllowed r ≡ true → effectiveScale r ≤ 24
-scale-most zero h = unfold effectiveScale in omega arith
-scale-most (suc r) h = unfold effectiveScale scaleAllowed in go (eqb (suc r) 0) (leb 4 (suc r)) (leb (suc r) 24) h refl refl
-  where
-    go : (a b c : Bool) → (a || b && c) ≡ true → eqb (suc r) 0 ≡ a → leb (suc r) 24 ≡ c → suc r ≤ 24
-    go true b c h e f = omega (arith, eqb-true (suc r) 0 e)
-    go false true c h e f = leb-true (suc r) 24 (f ∙ h)
-    go false false c h e f = absurd (true≢false (sym h))
-
 -- The whole number of a share is at most 2 × 2 ^ r in size, so at most 2 ^ 25.
-pub snap-size : (r : ℕ) (x : Float) (k : ℤ) → snap r x ≡ whole k → natAbs k ≤ 2 * 2 ^ effectiveScale r
+pub snap-size : (r : ℕ) (x : Float) (k : ℤ) → snap r x ≡ whole k → natAbs k ≤ 2 * 2 ^ r
 snap-size r nan k h = absurd (not-whole k (unfold snap in h))
 snap-size r (inf s) k h = absurd (not-whole k (unfold snap in h))
 snap-size r (fin s m e) k h =
-    let p = 2 ^ effectiveScale r in
+    let p = 2 ^ r in
     let l : m * up e * p ≤ 2 * p * down e = le-trans (mul-le-mul-right p (snap-small r s m e k h)) (le-of-eq (mul-right-comm 2 (down e) p)) in
     rw (snap-floor r s m e k h) (floor-size s (m * up e * p) (down e) (2 * p) (down-pos e) l)
 
-pub snap-bound : (r : ℕ) (x : Float) (k : ℤ) → scaleAllowed r ≡ true → snap r x ≡ whole k → natAbs k ≤ 2 ^ 25
+pub snap-bound : (r : ℕ) (x : Float) (k : ℤ) → r ≤ 24 → snap r x ≡ whole k → natAbs k ≤ 2 ^ 25
 snap-bound r x k a h =
-    let most : 2 ^ effectiveScale r ≤ 2 ^ 24 = pow-mono (scale-most r a) in
+    let most : 2 ^ r ≤ 2 ^ 24 = pow-mono a in
     omega (arith, snap-size r x k h)

@@ -7,10 +7,10 @@ use Rattle.snap_call.proofs.find_refusal.Statement.{statement}
 use Rattle.snap_call.proofs.find_refusal.Tie as tie
 
 abbrev Inv-loop : tie.InvT-loop
-Inv-loop n shares scale i₀ i = Looked n shares scale i
+Inv-loop n shares r i₀ i = Looked n shares r i
 
 abbrev μ-loop : tie.MeasureT-loop
-μ-loop n shares scale i₀ i = n - i
+μ-loop n shares r i₀ i = n - i
 
 loop-holds : tie.Need-loop-holds Inv-loop μ-loop
 loop-holds c = search looked-none

@@ -1,12 +1,11 @@
 -- `snap_call::snap_point` meets its contract: each arm is a law of a point whose shares are answered so. Assumes nothing.
-use Rattle.snap_call.specs.ShareCases.{scale-bound}
 use Rattle.snap_call.specs.PointCases.{share-size, x-not-finite, x-outside, y-not-finite, y-outside, both-inside}
 use borrow.Author.Needs.{needs}
 use Rattle.snap_call.proofs.snap_point.Statement.{statement}
 use Rattle.snap_call.proofs.snap_point.Tie as tie
 
 third-coordinate-requires : tie.Need-third-coordinate-requires
-third-coordinate-requires c κs = search (share-size, scale-bound)
+third-coordinate-requires c κs = search share-size
 
 returns : tie.Need-returns
 returns c = search x-not-finite
@@ -35,7 +34,6 @@ snap-point-spec =
     (λ c. search needs)
     (λ c. search needs)
     (λ c. search needs)
-    (λ c κs. search needs)
     third-coordinate-requires
     returns
     returns-2

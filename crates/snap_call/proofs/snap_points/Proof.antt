@@ -5,6 +5,7 @@ use types.Run.{OneOf, miss}
 use denote.Enum.Declared.{tagOf}
 use Rattle.definitions.specs.Answers.{numbered, done, shareOutside}
 use Rattle.snap_model.specs.Points.{not-refused}
+use Rattle.snap_call.specs.ShareCases.{scale-bound}
 use Rattle.snap_call.specs.CallOutcomes.{gives-early, gives-scale, gives-refusal, gives-done, shares-long, coordinates-long, scale-found, none-refused}
 use Rattle.snap_call.specs.Answer.{snapToAnswer}
 use Rattle.snap_call.specs.declared.SnapAnswer.{SnapAnswer}
@@ -23,22 +24,26 @@ returns : tie.Need-returns
 returns c = gives-early _ _ _ _ _ (search) (search)
 
 find-refusal-requires : tie.Need-find-refusal-requires
-find-refusal-requires c κs = search (scale-found, shares-long)
+find-refusal-requires c κs = search (scale-found, scale-bound, shares-long)
 
 returns-2 : tie.Need-returns-2
 returns-2 c =
     let rows : tie.After-snap-rows = search in
+    let exact : tie.After-exact-scale = search in
     let found : tie.After-find-refusal = search in
-    gives-refusal _ _ _ _ _ (rows .snap-rows .ensures) (search) (search scale-found) (found .find-refusal .result) (search) (search not-done)
+    gives-refusal _ _ _ _ _ (rows .snap-rows .ensures) (search) (search scale-found) _ (exact .exact-scale .ensures)
+    (found .find-refusal .result) (search) (search not-done)
 
 write-points-requires : tie.Need-write-points-requires
-write-points-requires c κs = search (scale-found, shares-long, coordinates-long, none-refused)
+write-points-requires c κs = search (scale-found, scale-bound, shares-long, coordinates-long, none-refused)
 
 returns-3 : tie.Need-returns-3
 returns-3 c =
     let rows : tie.After-snap-rows = search in
+    let exact : tie.After-exact-scale = search in
     let found : tie.After-find-refusal = search in
-    gives-done _ _ _ _ _ (rows .snap-rows .ensures) (search) (search scale-found) (found .find-refusal .result) (search) (search) _ (search)
+    gives-done _ _ _ _ _ (rows .snap-rows .ensures) (search) (search scale-found) _ (exact .exact-scale .ensures)
+    (found .find-refusal .result) (search) (search) _ (search)
 
 returns-4 : tie.Need-returns-4
 returns-4 c = let rows : tie.After-snap-rows = search in gives-scale _ _ _ _ _ (rows .snap-rows .ensures) (search) (search scale-found)
@@ -49,6 +54,7 @@ snap-points-spec =
     (tie.spec
     (λ c κs. search needs)
     returns
+    (λ c κs. search needs)
     (λ c κs. search needs)
     find-refusal-requires
     (λ c. search needs)

@@ -1,5 +1,5 @@
 -- `snap_call::snap_share` meets its contract: each arm is a law of a share that passed, or did not pass, the tests before it. Assumes nothing.
-use Rattle.snap_call.specs.ShareCases.{scale-bound, inside-number, inside-field, inside-whole, outside-far, outside-endless}
+use Rattle.snap_call.specs.ShareCases.{inside-number, inside-field, inside-whole, outside-far, outside-endless}
 use borrow.Author.Needs.{needs}
 use Rattle.snap_call.proofs.snap_share.Statement.{statement}
 use Rattle.snap_call.proofs.snap_share.Tie as tie
@@ -8,7 +8,7 @@ float-to-bits-snap-bits : tie.Need-float-to-bits-snap-bits
 float-to-bits-snap-bits c = search inside-number
 
 snap-bits-requires : tie.Need-snap-bits-requires
-snap-bits-requires c κs = search (scale-bound, inside-field)
+snap-bits-requires c κs = search inside-field
 
 returns : tie.Need-returns
 returns c = search inside-whole
@@ -25,8 +25,6 @@ snap-share-spec =
     (tie.spec
     (λ c κs. search needs)
     float-to-bits-snap-bits
-    (λ c κs. search needs)
-    (λ c. search needs)
     snap-bits-requires
     returns
     (λ c κs. search needs)

@@ -7,10 +7,10 @@ use Rattle.snap_call.proofs.write_points.Statement.{statement}
 use Rattle.snap_call.proofs.write_points.Tie as tie
 
 abbrev Inv-loop : tie.InvT-loop
-Inv-loop n shares scale coordinates₀ i₀ coordinates i = Written n shares scale coordinates₀ i coordinates
+Inv-loop n shares r coordinates₀ i₀ coordinates i = Written n shares r coordinates₀ i coordinates
 
 abbrev μ-loop : tie.MeasureT-loop
-μ-loop n shares scale coordinates₀ i₀ coordinates i = n - i
+μ-loop n shares r coordinates₀ i₀ coordinates i = n - i
 
 loop-holds : tie.Need-loop-holds Inv-loop μ-loop
 loop-holds c = search written-none
