@@ -57,6 +57,7 @@ static const struct step {
     {REPAIR, 9, 4, .triangles = TETRA, .numbers = {L, 1, 0}},
     {REPAIR, 13, 4, .triangles = TETRA, .numbers = {1, -1073741821, 1}},
     {SNAP, 0, 3, .shares = {0.5, -0.0, 1, 2, -1, 0.1}, .scale = 4},
+    {SNAP, 0, 3, .shares = {0.5, -0.0, 1, 2, -1, 0.1}, .scale = 0},
     {SNAP, 2, 3, .scale = 4, .cut = 1},
     {SNAP, 14, 3, .scale = 25},
     {SNAP, 15, 3, .shares = {INFINITY}},

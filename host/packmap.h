@@ -155,7 +155,7 @@ uint64_t packmap_repair(size_t n, const uint16_t *triangles, size_t triangles_le
                         int64_t *coordinates, size_t coordinates_len, int64_t *scratch, size_t scratch_len,
                         uint64_t *count);
 
-/* Writes the coordinates of drawn points at a scale of 4 to 24, or 0 for 16: 1, 2, 14, then 15 and 16 share by share.
+/* Writes the coordinates of drawn points at a scale of 4 to 24, or 0 for 20: 1, 2, 14, then 15 and 16 share by share.
  * With 16 the share is left in *outside, which else keeps what it held. The mesh is not looked at. */
 uint64_t packmap_snap_points(size_t n, const double *shares, size_t shares_len, uint32_t scale, int64_t *coordinates,
                              size_t coordinates_len, double *outside);

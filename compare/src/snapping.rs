@@ -52,7 +52,7 @@ pub fn run(count: usize, seed: u64) -> Tally {
     for bits in classes() {
         for sign in [0, 1 << 63] {
             let x = f64::from_bits(bits | sign);
-            let scale = [0, 4, 16, 23, 24][rng.below(5)];
+            let scale = [0, 4, 16, 20, 23, 24][rng.below(6)];
             one(&mut tally, 3, &[x, 0.5, -0.25, x, 1.0, -2.0], scale, 9);
         }
     }

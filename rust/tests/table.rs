@@ -131,7 +131,7 @@ fn row_14_scale() {
         assert_eq!(snap_points(3, &[f64::NAN; 6], scale), Err(Refusal::Scale));
     }
     for scale in (4..=24).chain([0]) {
-        let r = if scale == 0 { 16 } else { scale };
+        let r = if scale == 0 { 20 } else { scale };
         let point = [1 << (r - 1), 1 << (r - 2), 1 << (r - 2)];
         let points = [0.5, 0.25].repeat(3);
         assert_eq!(snap_points(3, &points, scale), Ok(point.repeat(3)));

@@ -4,7 +4,7 @@
 use crate::{exact, Answer, Extra, Refusal, Sizes};
 
 /// The scale that 0 stands for.
-pub const USUAL_SCALE: u32 = 16;
+pub const USUAL_SCALE: u32 = 20;
 
 /// Row 14, or the scale to work with.
 pub fn scale(lent: u32) -> Answer<u32> {

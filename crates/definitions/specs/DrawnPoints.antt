@@ -9,7 +9,7 @@ use Rattle.definitions.specs.Answers.{Answer, done, refused, numbered, s
 
 -- what scale 0 stands for
 abbrev pub defaultScale : ℕ
-defaultScale = 16
+defaultScale = 20
 
 -- the scale r that a call works with, where scale 0 stands for `usual`
 unfoldable pub effectiveScale : ℕ → ℕ → ℕ

@@ -1,5 +1,6 @@
 -- Cases of our own for "Drawn points", computed of the definitions: scales, shares at the edges, and the order in which shares are looked at. What each
 -- expects is worked out from the paper by hand; the comments say how. Assumes nothing.
+use Prim.Native.Nat.{ℕ}
 use mathlib.Core.Path.{_≡_, refl}
 use mathlib.Core.List.{[], _∷_, map}
 use lib.ListN.{replicate}
@@ -7,7 +8,7 @@ use lib.IntN.{pos}
 use lib.Ieee.{Float, ofBits, binary64}
 use Rattle.definitions.specs.Answers.{Refusal, done, refused, numbered, shareOutside}
 use Rattle.definitions.specs.DrawnPoints.{whole, notFinite, beyond, snap}
-use Rattle.definitions.specs.Refusals.{snapCall}
+use Rattle.definitions.specs.Refusals.{Snapped, snapCall}
 use Rattle.definitions.specs.CheckedShells.{Every, all-held, _and_, lent, minus, half, two}
 use Rattle.definitions.specs.RefusalTable.{noNumber, twoAndHalf}
 
@@ -67,15 +68,29 @@ Scales =
 
 -- ---- shares
 
--- At scale 4: -2 is -32, 2 is 32, -0.25 is -4, and the third coordinates make each sum 16. At scale 0, which stands for 16, 2 ^ 12 times as much.
+-- the points (-2, 2), (2, -2) and (-0.25, -0.25), at a scale
+abbrev edgePoints : ℕ → Snapped
+edgePoints scale = snapCall 3 (minusTwo ∷ two ∷ two ∷ minusTwo ∷ minusQuarter ∷ minusQuarter ∷ []) scale (lent 9)
+
+-- At scale 4: -2 is -32, 2 is 32, -0.25 is -4, and the third coordinates make each sum 16.
 abbrev Edges : Type 0
 Edges =
-    (snapCall 3 (minusTwo ∷ two ∷ two ∷ minusTwo ∷ minusQuarter ∷ minusQuarter ∷ []) 4 (lent 9)
+    edgePoints 4
     ≡ record {
       answer = done tt;
       coordinates = minus 32 ∷ pos 32 ∷ pos 16 ∷ pos 32 ∷ minus 32 ∷ pos 16 ∷ minus 4 ∷ minus 4 ∷ pos 24 ∷ [];
+    }
+
+-- C-17. At scale 0, which stands for 20: 2 ^ 16 times as much. At scale 16: 2 ^ 12 times as much, as at scale 0 while that stood for 16.
+abbrev ScaleZero : Type 0
+ScaleZero =
+    (edgePoints 0
+    ≡ record {
+      answer = done tt;
+      coordinates =
+          minus 2097152 ∷ pos 2097152 ∷ pos 1048576 ∷ pos 2097152 ∷ minus 2097152 ∷ pos 1048576 ∷ minus 262144 ∷ minus 262144 ∷ pos 1572864 ∷ [];
     })
-    × (snapCall 3 (minusTwo ∷ two ∷ two ∷ minusTwo ∷ minusQuarter ∷ minusQuarter ∷ []) 0 (lent 9)
+    × (edgePoints 16
     ≡ record {
       answer = done tt;
       coordinates =
@@ -111,15 +126,18 @@ ShareByShare =
     × PointsRefused half half half half half minusTwoAndHalf (shareOutside minusTwoAndHalf)
     × PointsRefused half half half half noNumber twoAndHalf (numbered 15)
 
-pub point-cases : Every (Scales ∷ Edges ∷ Downwards ∷ Outside ∷ ShareByShare ∷ [])
+pub point-cases : Every (Scales ∷ Edges ∷ ScaleZero ∷ Downwards ∷ Outside ∷ ShareByShare ∷ [])
 unfolding snap snapCall ofBits
-point-cases = scales and edges and downwards and outside and share-by-share and all-held
+point-cases = scales and edges and scale-zero and downwards and outside and share-by-share and all-held
   where
     scales : Scales
     scales = (refl, refl)
 
     edges : Edges
-    edges = (refl, refl)
+    edges = refl
+
+    scale-zero : ScaleZero
+    scale-zero = (refl, refl)
 
     downwards : Downwards
     downwards = refl

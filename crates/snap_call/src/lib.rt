@@ -25,7 +25,7 @@ pub enum ShareAnswer {
 }
 
 // What scale 0 stands for.
-const USUAL_SCALE: u32 = 16;
+const USUAL_SCALE: u32 = 20;
 
 fn exact_scale(scale: u32) -> u32
     ensures { λ r. ⌜ r ≡ Drawn.effectiveScale Drawn.defaultScale scale ⌝ }

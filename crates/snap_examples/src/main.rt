@@ -1,4 +1,4 @@
-// Snapping through the code. P9 to P11 are checked by `expect`, so they are proved of the code too. Then each pattern below is snapped at six scales, two
+// Snapping through the code. P9 to P11 are checked by `expect`, so they are proved of the code too. Then each pattern below is snapped at seven scales, two
 // of them not allowed, and a line is written: the pattern, the scale, the number of the answer (0 for done) and the whole number. The file stdout was
 // made with exact fractions.
 ghost use mathlib.Core.Path.{_≡_};
@@ -195,6 +195,7 @@ fn main() {
     paper();
     all(0);
     all(4);
+    all(16);
     all(23);
     all(24);
     all(25);

@@ -162,8 +162,8 @@ pub(super) fn lists(trials: &mut Trials) {
     for _ in 0..trials.rounds {
         let n = trials.size(300);
         let rng = &mut trials.rng;
-        let scale = [0, 4, 16, 24, 4 + rng.below(21) as u32][rng.below(5)];
-        let r = if scale == 0 { 16 } else { scale };
+        let scale = [0, 4, 16, 20, 24, 4 + rng.below(21) as u32][rng.below(6)];
+        let r = if scale == 0 { 20 } else { scale };
         let any = |rng: &mut Rng| rng.within(-2000, 2000) as f64 / 1000.0;
         let mut points: Vec<f64> = (0..2 * n).map(|_| any(rng)).collect();
         let floor = |x: f64| (x * (1u64 << r) as f64).floor() as i64;
