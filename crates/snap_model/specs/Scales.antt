@@ -40,6 +40,6 @@ module _ (n : ℕ) (shares : List Float) (bs : List ℤ) where
   zero-before (suc r) now low high =
       rw (call now n shares (suc r) bs, call (suc r) n shares 0 bs, allowed (suc r) low high) (unfold scaleAllowed effectiveScale in refl)
 
-  -- It stood for 16: calls that relied on it pass 16.
+  -- C-17: 0 stood for 16, and calls that relied on that pass 16.
   pub sixteen-as-before : snapCall n shares 16 bs ≡ snapCallWhereZeroIs 16 n shares 0 bs
   sixteen-as-before = unfold snapCall in refl
