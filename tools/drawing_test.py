@@ -1,5 +1,5 @@
 #!/usr/bin/env python3
-"""Holds the stored drawings among the samples against the rule for drawn points, by exact fractions.
+"""Holds the stored drawing among the samples against the shell it is made from and the rule for drawn points.
 
     python3 tools/drawing_test.py
 
@@ -14,8 +14,10 @@ import struct
 import unittest
 
 TOP = pathlib.Path(__file__).resolve().parent.parent
-# The foil cutter stored its drawings at scale 0 while that stood for 16.
+# The foil cutter stored its drawings at scale 0 while that stood for 16. Its own are not at hand; this one stands in for
+# them, a shell of ours with a margin to cut in.
 FOIL_SCALE = 16
+SHELL = "shell-64.listing"
 
 
 def drawing(name):
@@ -26,8 +28,21 @@ def drawing(name):
         yield shares, [int(k) for k in coordinates]
 
 
+def with_margin(name):
+    """The shares of a listing's vertices, each a twentieth farther from a third. The outer vertices stay at their corners."""
+    head, *vertices = [line.split("\t") for line in (TOP / "samples" / name).read_text(encoding="ascii").splitlines()]
+    total = int(head[2])
+    for vertex in vertices:
+        b = [int(field) for field in vertex[2:]]
+        shares = [k / total for k in b[:2]]
+        yield shares if total in b else [share + (share - 1 / 3) / 20 for share in shares]
+
+
 class Foil(unittest.TestCase):
     points = list(drawing("foil-64.drawing"))
+
+    def test_shares(self):
+        self.assertEqual([shares for shares, _ in self.points], list(with_margin(SHELL)))
 
     def test_coordinates(self):
         self.assertEqual(len(self.points), 64)

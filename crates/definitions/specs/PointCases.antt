@@ -88,7 +88,8 @@ ScaleZero =
     ≡ record {
       answer = done tt;
       coordinates =
-          minus 2097152 ∷ pos 2097152 ∷ pos 1048576 ∷ pos 2097152 ∷ minus 2097152 ∷ pos 1048576 ∷ minus 262144 ∷ minus 262144 ∷ pos 1572864 ∷ [];
+          minus 2097152 ∷ pos 2097152 ∷ pos 1048576 ∷ pos 2097152 ∷ minus 2097152 ∷ pos 1048576 ∷ minus 262144 ∷ minus 262144
+          ∷ pos 1572864 ∷ [];
     })
     × (edgePoints 16
     ≡ record {
