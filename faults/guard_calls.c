@@ -398,13 +398,15 @@ static void snap(const char *what, size_t n, size_t sized, uint32_t scale, const
 static void drawn_points(void) {
     const double third = 1.0 / 3.0;
     snap("P9, P10", 3, 3, 4, (const double[]){0.5, -0.0, -DBL_TRUE_MIN, 0, 0.25, 0.0625}, 0, 0,
-         (const int64_t[]){8, 0, 8, -1, 0, 17, 4, 1, 11});
+         (const int64_t[]){8, 0, 8, 0, 0, 16, 4, 1, 11});
     snap("P11", 3, 3, 24, (const double[]){2, -2, 0, 1, -1, 0.5}, 0, 0,
          (const int64_t[]){33554432, -33554432, 16777216, 0, 16777216, 0, -16777216, 8388608, 25165824});
+    snap("halves", 3, 3, 4, (const double[]){5.0 / 32, 7.0 / 32, -5.0 / 32, -7.0 / 32, 1.0 / 32, -1.0 / 32}, 0, 0,
+         (const int64_t[]){2, 4, 10, -2, -4, 22, 0, 0, 16});
     snap("scale 0", 3, 3, 0, (const double[]){1, 0, 0, 1, third, 0.1}, 0, 0,
-         (const int64_t[]){1048576, 0, 0, 0, 1048576, 0, 349525, 104857, 594194});
+         (const int64_t[]){1048576, 0, 0, 0, 1048576, 0, 349525, 104858, 594193});
     snap("scale 16", 3, 3, 16, (const double[]){1, 0, 0, 1, third, 0.1}, 0, 0,
-         (const int64_t[]){65536, 0, 0, 0, 65536, 0, 21845, 6553, 37138});
+         (const int64_t[]){65536, 0, 0, 0, 65536, 0, 21845, 6554, 37137});
 
     const size_t none[] = {0, 2, 4097, 65539, 4294967299, ((size_t)1 << 63) + 3, SIZE_MAX};
     for (size_t k = 0; k < sizeof none / sizeof *none; k++)

@@ -74,5 +74,7 @@ uint64_t __wrap_packmap_snap_points(size_t n, const double *shares, size_t share
     uint64_t number = __real_packmap_snap_points(n, shares, shares_len, scale, b, b_len, outside);
     if (planted("tells a share with 15") && number == 15)
         *outside = shares[0];
+    if (planted("takes a half up") && number == 0 && scale == 4 && shares[0] == 5.0 / 32)
+        b[0]++;
     return number;
 }

@@ -5,6 +5,7 @@
  *
  * A line of the file is a point: two shares, by the 16 hexadecimal digits of their bits, and three coordinates, parted
  * by tabs. The foil cutter's drawings were stored while scale 0 stood for 16, so they are snapped again at scale 16.
+ * What was stored while shares were rounded down differs wherever a share goes to the step above, and is stored anew.
  *
  * Exit status: 0 if all are equal, 1 if they are not or there is no telling, 2 if the command is not as above. */
 #include <errno.h>

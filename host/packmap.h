@@ -155,8 +155,10 @@ uint64_t packmap_repair(size_t n, const uint16_t *triangles, size_t triangles_le
                         int64_t *coordinates, size_t coordinates_len, int64_t *scratch, size_t scratch_len,
                         uint64_t *count);
 
-/* Writes the coordinates of drawn points at a scale of 4 to 24, or 0 for 20: 1, 2, 14, then 15 and 16 share by share.
- * With 16 the share is left in *outside, which else keeps what it held. The mesh is not looked at. */
+/* Writes the coordinates of drawn points at a scale r of 4 to 24, or 0 for 20: 1, 2, 14, then 15 and 16 share by share.
+ * A share goes to the whole number nearest to it times 2^r, halves to the even one; the third coordinate of a point is
+ * 2^r less the two others. With 16 the share is left in *outside, which else keeps what it held. The mesh is not looked
+ * at. */
 uint64_t packmap_snap_points(size_t n, const double *shares, size_t shares_len, uint32_t scale, int64_t *coordinates,
                              size_t coordinates_len, double *outside);
 

@@ -8,7 +8,6 @@ library snap the same shares.
 """
 
 import fractions
-import math
 import pathlib
 import struct
 import unittest
@@ -38,6 +37,12 @@ def with_margin(name):
         yield shares if total in b else [share + (share - 1 / 3) / 20 for share in shares]
 
 
+def nearest(step):
+    """The whole number nearest to a fraction, halves to the even one."""
+    below = step.numerator // step.denominator
+    return min(below, below + 1, key=lambda k: (abs(k - step), k % 2))
+
+
 class Foil(unittest.TestCase):
     points = list(drawing("foil-64.drawing"))
 
@@ -47,7 +52,7 @@ class Foil(unittest.TestCase):
     def test_coordinates(self):
         self.assertEqual(len(self.points), 64)
         for shares, coordinates in self.points:
-            x, y = (math.floor(share * 2**FOIL_SCALE) for share in shares)
+            x, y = (nearest(share * 2**FOIL_SCALE) for share in shares)
             self.assertEqual(coordinates, [x, y, 2**FOIL_SCALE - x - y])
 
     def test_all_kinds_of_shares(self):

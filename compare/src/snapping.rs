@@ -1,6 +1,6 @@
 //! Snapping: f64 patterns of every class and random ones, at every scale, with
-//! wrong lengths, scales and n among them. The whole numbers are held against
-//! exact integer arithmetic besides.
+//! half steps, wrong lengths, scales and n among them. The whole numbers are
+//! held against exact integer arithmetic besides.
 
 use crate::tally::{told, Tally};
 use second::spheres::Rng;
@@ -19,12 +19,20 @@ fn classes() -> Vec<u64> {
     all
 }
 
-/// A pattern of which many are inside -2 to 2.
-fn random(rng: &mut Rng) -> f64 {
+/// Halfway between two steps of scale r, or next to that.
+fn half_step(rng: &mut Rng, r: u32) -> f64 {
+    let odd = 2 * rng.within(-(2 << r), (2 << r) - 1) + 1;
+    let half = odd as f64 / (2u64 << r) as f64;
+    f64::from_bits(half.to_bits() - 1 + rng.below(3) as u64)
+}
+
+/// A pattern of which many are inside -2 to 2, for scale r.
+fn random(rng: &mut Rng, r: u32) -> f64 {
     let bits = rng.next();
-    match rng.below(4) {
+    match rng.below(5) {
         0 => f64::from_bits(bits),
         1 => f64::from_bits((bits & !(0x7ff << 52)) | (rng.below(1026) as u64) << 52),
+        2 => half_step(rng, r),
         _ => (bits as i64 as f64) / (1u64 << 62) as f64,
     }
 }
@@ -34,7 +42,7 @@ fn one(tally: &mut Tally, n: usize, shares: &[f64], scale: u32, len: usize) {
     let mut theirs = ours.clone();
     let answer = told(packmap::snap_points(n, shares, scale, &mut ours));
     let wanted = snap::snap(n, scale, shares, &mut theirs);
-    let r = if scale == 0 { snap::USUAL_SCALE } else { scale };
+    let r = snap::scale(scale).unwrap_or(snap::USUAL_SCALE);
     let exact = answer.is_err()
         || shares
             .chunks_exact(2)
@@ -58,12 +66,13 @@ pub fn run(count: usize, seed: u64) -> Tally {
     }
     for _ in 0..count {
         let n = 3 + rng.below(3);
-        let shares: Vec<f64> = (0..2 * n).map(|_| random(&mut rng)).collect();
         let scale = if rng.chance(20) {
             rng.below(40) as u32
         } else {
             [0, 4 + rng.below(21) as u32][rng.below(2)]
         };
+        let r = snap::scale(scale).unwrap_or(snap::USUAL_SCALE);
+        let shares: Vec<f64> = (0..2 * n).map(|_| random(&mut rng, r)).collect();
         let (cut, len) = (rng.chance(50) as usize, 3 * n - rng.chance(50) as usize);
         let named = if rng.chance(50) { rng.below(7000) } else { n };
         one(&mut tally, named, &shares[cut..], scale, len);

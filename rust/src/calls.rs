@@ -168,8 +168,9 @@ pub fn repair(
 }
 
 /// Writes the coordinates of drawn points. A point is a pair of shares: x of v0 and y of v1, each
-/// within -2 to 2. With a scale r of 4 to 24, or 0 for 20, a share becomes the largest whole number
-/// that is not above share × 2^r, and the coordinates are (kx, ky, 2^r - kx - ky).
+/// within -2 to 2. With a scale r of 4 to 24, or 0 for 20, a share becomes the whole number nearest
+/// to share × 2^r, of two that are equally near the even one, and the coordinates are
+/// (kx, ky, 2^r - kx - ky).
 ///
 /// There is no mesh here and no scratch: `n` is the number of points.
 ///

@@ -62,7 +62,7 @@ fn p9_to_p11_points() {
     let largest = -f64::from_bits(1);
     for scale in 4..=24 {
         let points = snap_points(3, &[largest; 6], scale);
-        assert_eq!(points, Ok([-1, -1, (1 << scale) + 2].repeat(3)));
+        assert_eq!(points, Ok([0, 0, 1 << scale].repeat(3)));
     }
     let points = snap_points(3, &[2.0; 6], 24);
     let third = (1 << 24) - 2 * 33_554_432;

@@ -1,15 +1,16 @@
-//! The program `second`: own tests, jobs, random and damaged jobs, and
-//! comparison with another program.
+//! The program `second`: own tests, jobs, random and damaged jobs, drawings
+//! snapped again, and comparison with another program.
 
 use second::spheres::{sphere, weights, Rng, KINDS};
 use second::text::{self, Job};
-use second::{damage, trials, Work};
+use second::{damage, snap, trials, Work};
 use std::io::{Read, Write};
 use std::process::{Command, ExitCode, Stdio};
 
 const USAGE: &str = "second test [ROUNDS] [SEED]
 second job
 second repaired
+second drawing SCALE
 second sphere N SEED [KIND]
 second damaged NUMBER SEED
 second compare COMMAND COUNT SEED";
@@ -21,6 +22,7 @@ fn main() -> ExitCode {
         ["test", ref rest @ ..] => test(rest),
         ["job"] => job(),
         ["repaired"] => repaired(),
+        ["drawing", scale] => drawing(scale),
         ["sphere", n, seed, ref kind @ ..] => random_job(n, seed, kind.first()),
         ["damaged", number, seed] => damaged_job(number, seed),
         ["compare", command, count, seed] => compare(command, count, seed),
@@ -76,6 +78,36 @@ fn repaired() -> Option<bool> {
     }
     let job = &work.job;
     put(&Job::write(job.n, &job.triangles, &job.weights))
+}
+
+/// The two shares at the front of a line of a stored drawing, by the
+/// hexadecimal digits of their bits.
+fn shares(line: &str) -> Option<[f64; 2]> {
+    let mut fields = line.split('\t');
+    let mut share = || u64::from_str_radix(fields.next()?, 16).ok();
+    Some([share()?, share()?].map(f64::from_bits))
+}
+
+/// A stored drawing with the coordinates that its shares are snapped to.
+fn drawing(scale: &str) -> Option<bool> {
+    let scale = scale.parse().ok()?;
+    let Ok(stored) = std::io::read_to_string(std::io::stdin()) else {
+        return Some(false);
+    };
+    let Some(points) = stored.lines().map(shares).collect::<Option<Vec<_>>>() else {
+        return Some(false);
+    };
+    let n = points.len();
+    let mut b = vec![0; 3 * n];
+    if snap::snap(n, scale, points.as_flattened(), &mut b).is_err() {
+        return Some(false);
+    }
+    let line = |([x, y], b): (&[f64; 2], &[i64])| {
+        let (x, y) = (x.to_bits(), y.to_bits());
+        format!("{x:016x}\t{y:016x}\t{}\t{}\t{}\n", b[0], b[1], b[2])
+    };
+    let snapped: String = points.iter().zip(b.chunks_exact(3)).map(line).collect();
+    put(snapped.as_bytes())
 }
 
 fn random_job(n: &str, seed: &str, kind: Option<&&str>) -> Option<bool> {

@@ -1,5 +1,5 @@
-//! Snapping of drawn points: each share scaled by 2^r and taken down to a
-//! whole number, from the share's bits.
+//! Snapping of drawn points: each share scaled by 2^r and taken to the nearest
+//! whole number, halves to the even one, from the share's bits.
 
 use crate::{exact, Answer, Extra, Refusal, Sizes};
 
@@ -15,7 +15,8 @@ pub fn scale(lent: u32) -> Answer<u32> {
     }
 }
 
-/// Rows 15 and 16, or the greatest whole number up to share times 2^r.
+/// Rows 15 and 16, or the whole number nearest to share times 2^r, of two that
+/// are equally near the even one.
 pub fn share(share: f64, r: u32) -> Answer<i64> {
     if !share.is_finite() {
         return Err(Refusal::plain(15));
@@ -28,15 +29,21 @@ pub fn share(share: f64, r: u32) -> Answer<i64> {
     }
     let bits = share.to_bits();
     let exponent = (bits >> 52 & 0x7ff) as u32;
-    let fraction = (bits & ((1 << 52) - 1)) as i64;
+    let fraction = bits & ((1 << 52) - 1);
     // |share| is mantissa / 2^down before scaling. As |share| is at most 2,
-    // down exceeds every r, and the shift goes right; it rounds down.
+    // down exceeds every r, and the shift goes right. From 55 on all of the
+    // mantissa is below a half.
     let (mantissa, down) = match exponent {
         0 => (fraction, 1074),
         e => (fraction | 1 << 52, 1075 - e),
     };
-    let signed = if bits >> 63 == 1 { -mantissa } else { mantissa };
-    Ok(signed >> (down - r).min(63))
+    let shift = (down - r).min(55);
+    let whole = mantissa >> shift;
+    let out = mantissa & ((1 << shift) - 1);
+    let half = 1 << (shift - 1);
+    let up = u64::from(out > half) | (u64::from(out == half) & whole & 1);
+    let size = (whole + up) as i64;
+    Ok(if bits >> 63 == 1 { -size } else { size })
 }
 
 /// Snapping as a call. Nothing is written before every share has passed.

@@ -146,9 +146,9 @@ P8 =
 abbrev pub P9 : Type 0
 P9 = (snap 4 half ≡ whole (pos 8)) × (snap 4 minusZero ≡ whole (pos 0))
 
--- at every scale
+-- at every scale; 0 since C-19, -1 before
 abbrev pub P10 : Type 0
-P10 = map (λ r. snap r justBelow) scales ≡ replicate 21 (whole (minus 1))
+P10 = map (λ r. snap r justBelow) scales ≡ replicate 21 (whole (pos 0))
 
 abbrev pub P11 : Type 0
 P11 = snap 24 two ≡ whole (pos 33_554_432)

@@ -20,10 +20,15 @@ effectiveScale usual (suc r) = suc r
 unfoldable pub scaleAllowed : ℕ → Bool
 scaleAllowed r = eqb r 0 || (leb 4 r && leb r 24)
 
--- The whole number k with k ≤ ± a / b < k + 1, negative where the Bool is true: a fraction is cut off, and below 0 one more is taken off.
-unfoldable pub floor : Bool → ℕ → ℕ → ℤ
-floor false a b = pos (a / b)
-floor true a b = negℤ (pos (a / b + cond (eqb (a % b) 0) 0 1))
+-- The whole number nearest to a / b, and of two that are equally near the even one: the whole part where the rest is below a half, one more where it is
+-- above, and at a half whichever of the two is even.
+unfoldable pub nearest : ℕ → ℕ → ℕ
+nearest a b = cond (ltb (2 * (a % b)) b) (a / b) (cond (ltb b (2 * (a % b))) (a / b + 1) (a / b + a / b % 2))
+
+-- ± a, negative where the Bool is true
+abbrev pub signed : Bool → ℕ → ℤ
+signed false a = pos a
+signed true a = negℤ (pos a)
 
 -- what becomes of a share
 pub data Snap : Type 0 where
@@ -31,13 +36,14 @@ pub data Snap : Type 0 where
   notFinite : Snap
   beyond : Float → Snap
 
--- A share at scale r. A finite f64 is the number ± m * 2 ^ e, that is ± m * up e / down e. A share outside -2 to 2 is refused.
+-- A share at scale r. A finite f64 is the number ± m * 2 ^ e, that is ± m * up e / down e. A share outside -2 to 2 is refused. The nearest to a number
+-- below 0 is that to its size, with the sign put back.
 unfoldable pub snap : ℕ → Float → Snap
-unfolding floor
+unfolding nearest
 snap r nan = notFinite
 snap r (inf s) = notFinite
 snap r (fin s m e) =
-    cond (ltb (2 * down e) (m * up e)) (beyond (fin s m e)) (whole (floor s (m * up e * 2 ^ r) (down e)))
+    cond (ltb (2 * down e) (m * up e)) (beyond (fin s m e)) (whole (signed s (nearest (m * up e * 2 ^ r) (down e))))
 
 -- Shares in order, two to a point, the share x of v0 before the share y of v1: the coordinates (kx, ky, 2 ^ r - kx - ky) of each point,
 -- or the refusal of the first share that is refused.

@@ -1,13 +1,13 @@
 -- Cases of our own for "Drawn points", computed of the definitions: scales, shares at the edges, and the order in which shares are looked at. What each
 -- expects is worked out from the paper by hand; the comments say how. Assumes nothing.
-use Prim.Native.Nat.{ℕ}
+use Prim.Native.Nat.{ℕ, _+_, _-_}
 use mathlib.Core.Path.{_≡_, refl}
-use mathlib.Core.List.{[], _∷_, map}
+use mathlib.Core.List.{List, [], _∷_, map}
 use lib.ListN.{replicate}
 use lib.IntN.{pos}
 use lib.Ieee.{Float, ofBits, binary64}
 use Rattle.definitions.specs.Answers.{Refusal, done, refused, numbered, shareOutside}
-use Rattle.definitions.specs.DrawnPoints.{whole, notFinite, beyond, snap}
+use Rattle.definitions.specs.DrawnPoints.{Snap, whole, notFinite, beyond, snap}
 use Rattle.definitions.specs.Refusals.{Snapped, snapCall}
 use Rattle.definitions.specs.CheckedShells.{Every, all-held, _and_, lent, minus, half, two}
 use Rattle.definitions.specs.RefusalTable.{noNumber, twoAndHalf}
@@ -20,21 +20,17 @@ minusTwo = ofBits binary64 0xc000_0000_0000_0000
 abbrev minusQuarter : Float
 minusQuarter = ofBits binary64 0xbfd0_0000_0000_0000
 
--- 1.75
-abbrev sevenQuarters : Float
-sevenQuarters = ofBits binary64 0x3ffc_0000_0000_0000
-
--- 5/32 = 1.25 * 2 ^ -3, and -5/32
+-- 5/32, -5/32 and 7/32
 abbrev fiveParts : Float
 fiveParts = ofBits binary64 0x3fc4_0000_0000_0000
 
 abbrev minusFiveParts : Float
 minusFiveParts = ofBits binary64 0xbfc4_0000_0000_0000
 
--- the least above 0, the next below -2, -2.5, 3, 4, and the largest of all
-abbrev justAbove : Float
-justAbove = ofBits binary64 0x0000_0000_0000_0001
+abbrev sevenParts : Float
+sevenParts = ofBits binary64 0x3fcc_0000_0000_0000
 
+-- the next below -2, -2.5, 3, 4, and the largest of all
 abbrev belowMinusTwo : Float
 belowMinusTwo = ofBits binary64 0xc000_0000_0000_0001
 
@@ -98,11 +94,72 @@ ScaleZero =
           minus 131072 ∷ pos 131072 ∷ pos 65536 ∷ pos 131072 ∷ minus 131072 ∷ pos 65536 ∷ minus 16384 ∷ minus 16384 ∷ pos 98304 ∷ [];
     })
 
--- 5/32 * 16 is 2.5: it becomes 2, and -2.5 becomes -3. The least share above 0 becomes 0, and 1.75 * 16 is 28.
-abbrev Downwards : Type 0
-Downwards =
-    map (snap 4) (fiveParts ∷ minusFiveParts ∷ justAbove ∷ sevenQuarters ∷ [])
-    ≡ whole (pos 2) ∷ whole (minus 3) ∷ whole (pos 0) ∷ whole (pos 28) ∷ []
+-- ---- the nearest whole number (C-19)
+
+-- what the shares with these bits become at a scale, and those below 0 of the same sizes
+abbrev snapBits : ℕ → List ℕ → List Snap
+snapBits r bits = map (λ b. snap r (ofBits binary64 b)) bits
+
+abbrev snapMinus : ℕ → List ℕ → List Snap
+snapMinus r bits = snapBits r (map (λ b. 0x8000_0000_0000_0000 + b) bits)
+
+-- whole numbers that are 0 or more, and 0 or less
+abbrev wholes : List ℕ → List Snap
+wholes ks = map (λ k. whole (pos k)) ks
+
+abbrev minusWholes : List ℕ → List Snap
+minusWholes ks = map (λ k. whole (minus k)) ks
+
+-- 1/32 = 2 ^ -5, 3/32 = 1.5 * 2 ^ -4, 5/32 = 1.25 * 2 ^ -3 and 7/32 = 1.75 * 2 ^ -3: at scale 4 they are 0.5, 1.5, 2.5 and 3.5
+abbrev halves : List ℕ
+halves = 0x3fa0_0000_0000_0000 ∷ 0x3fb8_0000_0000_0000 ∷ 0x3fc4_0000_0000_0000 ∷ 0x3fcc_0000_0000_0000 ∷ []
+
+-- Of the two numbers beside each the even one is taken, 0 or 2 or 4.
+abbrev Halves : Type 0
+Halves = (snapBits 4 halves ≡ wholes (0 ∷ 2 ∷ 2 ∷ 4 ∷ [])) × (snapMinus 4 halves ≡ minusWholes (0 ∷ 2 ∷ 2 ∷ 4 ∷ []))
+
+-- The shares next to them, one unit in the last place smaller or larger in size: they go to the number below and to the number above.
+abbrev BesideHalves : Type 0
+BesideHalves =
+    (snapBits 4 (map (λ b. b - 1) halves) ≡ wholes (0 ∷ 1 ∷ 2 ∷ 3 ∷ []))
+    × (snapBits 4 (map (λ b. b + 1) halves) ≡ wholes (1 ∷ 2 ∷ 3 ∷ 4 ∷ []))
+    × (snapMinus 4 (map (λ b. b - 1) halves) ≡ minusWholes (0 ∷ 1 ∷ 2 ∷ 3 ∷ []))
+    × (snapMinus 4 (map (λ b. b + 1) halves) ≡ minusWholes (1 ∷ 2 ∷ 3 ∷ 4 ∷ []))
+
+-- 1 + 2 ^ -25 and 1 + 3 * 2 ^ -25: at scale 24 they are 2 ^ 24 + 0.5 and 2 ^ 24 + 1.5.
+abbrev fineHalves : List ℕ
+fineHalves = 0x3ff0_0000_0800_0000 ∷ 0x3ff0_0000_1800_0000 ∷ []
+
+abbrev FineHalves : Type 0
+FineHalves =
+    (snapBits 24 fineHalves ≡ wholes (16777216 ∷ 16777218 ∷ []))
+    × (snapBits 24 (map (λ b. b - 1) fineHalves) ≡ wholes (16777216 ∷ 16777217 ∷ []))
+    × (snapBits 24 (map (λ b. b + 1) fineHalves) ≡ wholes (16777217 ∷ 16777218 ∷ []))
+    × (snapMinus 24 fineHalves ≡ minusWholes (16777216 ∷ 16777218 ∷ []))
+
+-- 0, the least share above 0 (5e-324), the largest without a leading digit, the least with one; 1.75, and the largest below 2
+abbrev ends : List ℕ
+ends = 0 ∷ 1 ∷ 0x000f_ffff_ffff_ffff ∷ 0x0010_0000_0000_0000 ∷ 0x3ffc_0000_0000_0000 ∷ 0x3fff_ffff_ffff_ffff ∷ []
+
+-- The first four are closer to 0 than a half, and -0 is 0. 1.75 * 16 is 28 and leaves no rest. The last is 2 ^ -52 short of 2 and becomes what 2 does.
+abbrev Ends : Type 0
+Ends =
+    (snapBits 4 ends ≡ wholes (0 ∷ 0 ∷ 0 ∷ 0 ∷ 28 ∷ 32 ∷ []))
+    × (snapMinus 4 ends ≡ minusWholes (0 ∷ 0 ∷ 0 ∷ 0 ∷ 28 ∷ 32 ∷ []))
+    × (snapBits 24 ends ≡ wholes (0 ∷ 0 ∷ 0 ∷ 0 ∷ 29360128 ∷ 33554432 ∷ []))
+    × (snapMinus 24 ends ≡ minusWholes (0 ∷ 0 ∷ 0 ∷ 0 ∷ 29360128 ∷ 33554432 ∷ []))
+
+-- At scale 4 the points (5/32, 5/32), (-5/32, 7/32) and (7/32, 7/32). The third coordinate is 16 less the two others: it is not snapped itself, which
+-- would make 11, 15 and 9 of the shares 22/32, 30/32 and 18/32.
+abbrev ThirdOfHalves : Type 0
+ThirdOfHalves =
+    snapCall 3 (fiveParts ∷ fiveParts ∷ minusFiveParts ∷ sevenParts ∷ sevenParts ∷ sevenParts ∷ []) 4 (lent 9)
+    ≡ record {
+      answer = done tt;
+      coordinates = pos 2 ∷ pos 2 ∷ pos 12 ∷ minus 2 ∷ pos 4 ∷ pos 14 ∷ pos 4 ∷ pos 4 ∷ pos 8 ∷ [];
+    }
+
+-- ---- shares that are refused
 
 abbrev Outside : Type 0
 Outside =
@@ -127,9 +184,12 @@ ShareByShare =
     × PointsRefused half half half half half minusTwoAndHalf (shareOutside minusTwoAndHalf)
     × PointsRefused half half half half noNumber twoAndHalf (numbered 15)
 
-pub point-cases : Every (Scales ∷ Edges ∷ ScaleZero ∷ Downwards ∷ Outside ∷ ShareByShare ∷ [])
+pub point-cases :
+    Every (Scales ∷ Edges ∷ ScaleZero ∷ Halves ∷ BesideHalves ∷ FineHalves ∷ Ends ∷ ThirdOfHalves ∷ Outside ∷ ShareByShare ∷ [])
 unfolding snap snapCall ofBits
-point-cases = scales and edges and scale-zero and downwards and outside and share-by-share and all-held
+point-cases =
+    scales and edges and scale-zero and on-halves and beside-halves and fine-halves and at-ends and third-of-halves and outside and share-by-share
+    and all-held
   where
     scales : Scales
     scales = (refl, refl)
@@ -140,8 +200,20 @@ point-cases = scales and edges and scale-zero and downwards and outside and shar
     scale-zero : ScaleZero
     scale-zero = (refl, refl)
 
-    downwards : Downwards
-    downwards = refl
+    on-halves : Halves
+    on-halves = (refl, refl)
+
+    beside-halves : BesideHalves
+    beside-halves = (refl, refl, refl, refl)
+
+    fine-halves : FineHalves
+    fine-halves = (refl, refl, refl, refl)
+
+    at-ends : Ends
+    at-ends = (refl, refl, refl, refl)
+
+    third-of-halves : ThirdOfHalves
+    third-of-halves = refl
 
     outside : Outside
     outside = refl

@@ -7,6 +7,7 @@ use mathlib.Core.List.{List, [], _∷_}
 use mathlib.Core.Option.{none}
 use lib.IntN.{ℤ}
 use lib.Ieee.{Float}
+use lib.ListN.{length}
 use Rattle.definitions.specs.Answers.{Refusal, numbered, Answer, done, refused}
 use Rattle.definitions.specs.Mesh.{pointsLength, coordinatesLength}
 use Rattle.definitions.specs.DrawnPoints.{defaultScale, effectiveScale, scaleAllowed, snapAll}
@@ -16,9 +17,21 @@ use Rattle.theory_sphere.specs.FirstRefusal.{row2-cons}
 use Rattle.lent_slices.specs.Lengths.{firstRows, first-0, first-1, first-2, none-found}
 use Rattle.snap_model.specs.Call.{slices, found, outcome, call}
 use Rattle.snap_model.specs.Points.{settled, new, not-refused}
+use Rattle.snap_model.specs.Looking.{sharesAnswer, shares-answer}
 use Rattle.snap_call.specs.Answer.{snapToAnswer}
 use Rattle.snap_call.specs.declared.SnapAnswer.{SnapAnswer}
 use Rattle.snap_call.specs.declared.SnapAnswer.the-variants.{Done}
+
+-- where rows 1 and 2 find nothing the lengths m, p are right
+module _ (n m p k : ℕ) (e : k ≡ firstRows n (slice m (pointsLength n) ∷ slice p (coordinatesLength n) ∷ [])) (z : k ≡ 0) where
+  shares-first : (m ≡ 2 * n) × (row2 (slice p (coordinatesLength n) ∷ []) ≡ false)
+  shares-first = row2-cons m (pointsLength n) (slice p (coordinatesLength n) ∷ []) .0 (none-found n _ k e z .1)
+
+  pub shares-long : m ≡ 2 * n
+  shares-long = shares-first .0
+
+  pub coordinates-long : p ≡ 3 * n
+  coordinates-long = row2-cons p (coordinatesLength n) [] .0 (shares-first .1) .0
 
 -- ---- the call
 
@@ -77,7 +90,10 @@ module _ (n : ℕ) (shares : List Float) (scale : ℕ) (bs : List ℤ) where
 
       -- the points decide, and a is what is found of them
       module _ (g : scaleAllowed scale ≡ true) (r : ℕ) (i : r ≡ effectiveScale defaultScale scale) (a : SnapAnswer)
-          (h : snapToAnswer a ≡ settled (snapAll r shares)) where
+          (l : snapToAnswer a ≡ sharesAnswer shares) where
+        h : snapToAnswer a ≡ settled (snapAll r shares)
+        h = l ∙ sym (shares-answer r n shares (shares-long n (length shares) (length bs) k e z))
+
         decided : snapCall n shares scale bs ≡ outcome none (snapAll r shares) bs
         decided = let f = none-found n lent k e z in rw (in-parts, f .0, f .1, g, ← i) (unfold found in refl)
 
@@ -92,20 +108,9 @@ module _ (n : ℕ) (shares : List Float) (scale : ℕ) (bs : List ℤ) where
             rw f (gives (record { answer = done tt; coordinates = new (snapAll r shares) })
             (decided ∙ is-done (snapAll r shares) bs (sym h ∙ ap snapToAnswer s)))
 
--- where rows 1 and 2 find nothing the lengths m, p are right
-module _ (n m p k : ℕ) (e : k ≡ firstRows n (slice m (pointsLength n) ∷ slice p (coordinatesLength n) ∷ [])) (z : k ≡ 0) where
-  shares-first : (m ≡ 2 * n) × (row2 (slice p (coordinatesLength n) ∷ []) ≡ false)
-  shares-first = row2-cons m (pointsLength n) (slice p (coordinatesLength n) ∷ []) .0 (none-found n _ k e z .1)
-
-  pub shares-long : m ≡ 2 * n
-  shares-long = shares-first .0
-
-  pub coordinates-long : p ≡ 3 * n
-  coordinates-long = row2-cons p (coordinatesLength n) [] .0 (shares-first .1) .0
-
 -- what the tests found, for the calls after them
 pub scale-found : (scale : ℕ) (a b : Bool) → a ≡ scaleAllowed scale → a ≡ b → scaleAllowed scale ≡ b
 scale-found scale a b e g = sym e ∙ g
 
-pub none-refused : (w : Answer (List ℤ)) (a : SnapAnswer) → snapToAnswer a ≡ settled w → a ≡ Done → settled w ≡ done tt
-none-refused w a e g = sym e ∙ ap snapToAnswer g
+pub none-refused : (shares : List Float) (a : SnapAnswer) → snapToAnswer a ≡ sharesAnswer shares → a ≡ Done → sharesAnswer shares ≡ done tt
+none-refused shares a e g = sym e ∙ ap snapToAnswer g

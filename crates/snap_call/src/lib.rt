@@ -1,4 +1,4 @@
-// Snapping of drawn points: a share, a point, and the public call on a list of points.
+// Snapping of drawn points, the public call on a list. The shares are looked at in order first, and then every point is written.
 ghost use mathlib.Core.Path.{_≡_};
 ghost use mathlib.Core.Bool.{true};
 ghost use mathlib.Core.List.{[], _∷_};
@@ -8,19 +8,19 @@ ghost use lib.Ieee.{nan, binary64, top, hid};
 ghost use lib.ListN.{length, getD};
 ghost use lib.Seq.{sets};
 ghost use lib.IntN.{pos, natAbs, _-ℤ_};
-ghost use Rattle.definitions.specs.Answers.{done};
+ghost use Rattle.definitions.specs.Answers.{done, refused};
 ghost use Rattle.definitions.specs.DrawnPoints as Drawn;
 ghost use Rattle.definitions.specs.Refusals.{snapCall};
 ghost use Rattle.snap_model.specs.Bits.{units};
-ghost use Rattle.snap_model.specs.Floor.{signed as signOf};
 ghost use Rattle.snap_model.specs.Share as Share;
-ghost use Rattle.snap_model.specs.Points.{settled, new};
-ghost use Rattle.snap_call.specs.Answer.{shareToSnap, pointToAnswer, snapToAnswer};
+ghost use Rattle.snap_model.specs.Points.{new};
+ghost use Rattle.snap_model.specs.Looking.{sharesAnswer};
+ghost use Rattle.snap_call.specs.Answer.{snapToAnswer};
 
-// What becomes of a share: its whole number, or why it is refused.
-pub enum ShareAnswer {
-    Whole(i64),
-    NotFinite,
+// What a list of points is answered: done, or refused with the number of the table, 16 with the share itself.
+pub enum SnapAnswer {
+    Done,
+    Refused(u32),
     Outside(f64),
 }
 
@@ -33,10 +33,22 @@ fn exact_scale(scale: u32) -> u32
     if scale == 0 { USUAL_SCALE } else { scale }
 }
 
+fn scale_allowed(scale: u32) -> bool
+    ensures { λ r. ⌜ r ≡ Drawn.scaleAllowed scale ⌝ }
+{
+    if scale == 0 {
+        return true;
+    }
+    if scale < 4 {
+        return false;
+    }
+    scale <= 24
+}
+
 // ± a, negative where the bool is true.
 fn with_sign(negative: bool, a: u64) -> i64
     requires { ⌜ a < 2 ^ 53 ⌝ }
-    ensures { λ r. ⌜ r ≡ signOf negative a ⌝ }
+    ensures { λ r. ⌜ r ≡ Drawn.signed negative a ⌝ }
 {
     if negative {
         return -(a as i64);
@@ -44,23 +56,15 @@ fn with_sign(negative: bool, a: u64) -> i64
     a as i64
 }
 
-// The whole number at or below ± a / 2 ^ d: a signed number is shifted down, not towards 0.
-fn floor(negative: bool, a: u64, d: u64) -> i64
-    requires { ⌜ (d < 63) × (a < 2 ^ 53) ⌝ }
-    ensures { λ r. ⌜ r ≡ Drawn.floor negative a (2 ^ d) ⌝ }
+// The whole number nearest to a / 2 ^ d, halves to the even one: just under a half is added, or a whole half where the whole part is odd, and the rest is
+// shifted out.
+fn nearest(a: u64, d: u64) -> u64
+    requires { ⌜ (0 < d) × (d < 54) × (a < 2 ^ 53) ⌝ }
+    ensures { λ r. ⌜ r ≡ Drawn.nearest a (2 ^ d) ⌝ }
+    ensures small { λ r. ⌜ r < 2 ^ 53 ⌝ }
 {
-    with_sign(negative, a) >> d
-}
-
-// The same for any d. Past 62 a divisor does what 2 ^ 62 does, since a is small.
-fn floor_shift(negative: bool, a: u64, d: u64) -> i64
-    requires { ⌜ a < 2 ^ 53 ⌝ }
-    ensures { λ r. ⌜ r ≡ Drawn.floor negative a (2 ^ d) ⌝ }
-{
-    if d < 62 {
-        return floor(negative, a, d);
-    }
-    floor(negative, a, 62)
+    let half = 1 << (d - 1);
+    (a + (half - 1 + (a >> d) % 2)) >> d
 }
 
 // The bit of an f64's sign, above its exponent's field and its digits.
@@ -72,19 +76,18 @@ const ENDLESS: u64 = 0x7ff0_0000_0000_0000;
 // The leading digit of an f64, which its bits leave out, and the weight of its exponent's field.
 const LEADING: u64 = 0x10_0000_0000_0000;
 
-// The whole number of the finite f64 with these bits, at an exact scale r. Its exponent's field says which power of 2 its digits count:
-// field 0 stands for 2 ^ -1074, as 1 does, and any other brings a leading digit.
+// The whole number of the f64 with these bits, from -2 to 2, at an exact scale r. Its digits, the leading one with them, count 2 ^ (field - 1075). Where
+// field and scale are small it is less than a half; so is every f64 without a leading digit, whose field is 0.
 fn snap_bits(bits: u64, r: u64) -> i64
     requires { ⌜ (r ≤ 24) × (bits % top binary64 / hid binary64 ≤ 1024) ⌝ }
-    ensures { λ k. ⌜ k ≡ Drawn.floor (leb (top binary64) bits) (units bits * 2 ^ r) (2 ^ 1074) ⌝ }
+    ensures { λ k. ⌜ k ≡ Drawn.signed (leb (top binary64) bits) (Drawn.nearest (units bits * 2 ^ r) (2 ^ 1074)) ⌝ }
 {
-    let negative = bits >= SIGN;
     let field = bits % SIGN / LEADING;
-    let digits = bits % LEADING;
-    if field == 0 {
-        return floor_shift(negative, digits, 1074 - r);
+    if field + r < 1022 {
+        return 0;
     }
-    floor_shift(negative, LEADING + digits, 1075 - field - r)
+    let size = nearest(LEADING + bits % LEADING, 1075 - field - r);
+    with_sign(bits >= SIGN, size)
 }
 
 // Whether a share is no number, or infinite.
@@ -107,18 +110,38 @@ fn inside(share: f64) -> bool
     false
 }
 
-// A share at an exact scale r: of those that are not from -2 to 2, 15 goes before 16.
-fn snap_share(share: f64, r: u32) -> ShareAnswer
-    requires { ⌜ r ≤ 24 ⌝ }
-    ensures { λ a. ⌜ shareToSnap a ≡ Drawn.snap r share ⌝ }
+// Why a share that is not from -2 to 2 is refused: 15 goes before 16.
+fn refuse(share: f64) -> SnapAnswer
+    ensures { λ a. ⌜ snapToAnswer a ≡ refused (Share.refusal share) ⌝ }
 {
-    if inside(share) {
-        return ShareAnswer::Whole(snap_bits(f64::to_bits(share), r as u64));
-    }
     if not_finite(share) {
-        return ShareAnswer::NotFinite;
+        return SnapAnswer::Refused(15);
     }
-    ShareAnswer::Outside(share)
+    SnapAnswer::Outside(share)
+}
+
+// Looks at the shares in order and writes nothing.
+fn find_refusal(shares: &[f64]) -> SnapAnswer
+    ensures { λ a. ⌜ snapToAnswer a ≡ sharesAnswer (now (shares .entry)) ⌝ }
+{
+    let mut i = 0;
+    while i < shares.len() {
+        let share = shares[i];
+        if inside(share) {
+            i += 1;
+        } else {
+            return refuse(share);
+        }
+    }
+    SnapAnswer::Done
+}
+
+// The whole number of a share from -2 to 2, at an exact scale r.
+fn snap_share(share: f64, r: u32) -> i64
+    requires { ⌜ (r ≤ 24) × (Share.inside share ≡ true) ⌝ }
+    ensures { λ k. ⌜ Drawn.snap r share ≡ Drawn.whole k ⌝ }
+{
+    snap_bits(f64::to_bits(share), r as u64)
 }
 
 // The third coordinate, from the exact scale r and the first two.
@@ -136,48 +159,6 @@ pub struct Point {
     pub y: f64,
 }
 
-// What becomes of a point: its three coordinates, or why it is refused.
-pub enum PointAnswer {
-    At(i64, i64, i64),
-    NotFinite,
-    Outside(f64),
-}
-
-// A point at an exact scale r, x before y.
-fn snap_point(point: Point, r: u32) -> PointAnswer
-    requires { ⌜ r ≤ 24 ⌝ }
-    ensures { λ a. ⌜ pointToAnswer a ≡ Drawn.snapAll r (point .x ∷ point .y ∷ []) ⌝ }
-{
-    match snap_share(point.x, r) {
-        ShareAnswer::NotFinite => PointAnswer::NotFinite,
-        ShareAnswer::Outside(share) => PointAnswer::Outside(share),
-        ShareAnswer::Whole(kx) => match snap_share(point.y, r) {
-            ShareAnswer::NotFinite => PointAnswer::NotFinite,
-            ShareAnswer::Outside(share) => PointAnswer::Outside(share),
-            ShareAnswer::Whole(ky) => PointAnswer::At(kx, ky, third_coordinate(kx, ky, r)),
-        },
-    }
-}
-
-// What a list of points is answered: done, or refused with the number of the table, 16 with the share itself.
-pub enum SnapAnswer {
-    Done,
-    Refused(u32),
-    Outside(f64),
-}
-
-fn scale_allowed(scale: u32) -> bool
-    ensures { λ r. ⌜ r ≡ Drawn.scaleAllowed scale ⌝ }
-{
-    if scale == 0 {
-        return true;
-    }
-    if scale < 4 {
-        return false;
-    }
-    scale <= 24
-}
-
 // The point i of a list: two shares to a point, x before y.
 fn point_at(shares: &[f64], i: usize) -> Point
     requires { ⌜ 2 * i + 1 < length (now shares) ⌝ }
@@ -189,45 +170,22 @@ fn point_at(shares: &[f64], i: usize) -> Point
     }
 }
 
-// Looks at the points in order and writes nothing.
-fn find_refusal(n: usize, shares: &[f64], r: u32) -> SnapAnswer
-    requires { ⌜ (r ≤ 24) × (length (now shares) ≡ 2 * n) ⌝ }
-    ensures { λ a. ⌜ snapToAnswer a ≡ settled (Drawn.snapAll r (now (shares .entry))) ⌝ }
-{
-    let mut i = 0;
-    while i < n {
-        match snap_point(point_at(shares, i), r) {
-            PointAnswer::NotFinite => {
-                return SnapAnswer::Refused(15);
-            }
-            PointAnswer::Outside(share) => {
-                return SnapAnswer::Outside(share);
-            }
-            PointAnswer::At(_, _, _) => {
-                i += 1;
-            }
-        }
-    }
-    SnapAnswer::Done
-}
-
-// Writes the three coordinates of a point that is not refused.
+// Writes the three coordinates of a point whose shares are from -2 to 2.
 fn write_point(point: Point, r: u32, coordinates: &mut [i64], at: usize)
-    requires { ⌜ (r ≤ 24) × (at + 3 ≤ length (now coordinates)) ⌝ }
+    requires { ⌜ (r ≤ 24) × (at + 3 ≤ length (now coordinates)) × (Share.inside (point .x) ≡ true) × (Share.inside (point .y) ≡ true) ⌝ }
     ensures { λ _. ⌜ now (coordinates .exit) ≡ sets (now (coordinates .entry)) at (new (Drawn.snapAll r (point .x ∷ point .y ∷ []))) ⌝ }
 {
-    let PointAnswer::At(kx, ky, kz) = snap_point(point, r) else {
-        return;
-    };
+    let kx = snap_share(point.x, r);
+    let ky = snap_share(point.y, r);
     coordinates[at] = kx;
     coordinates[at + 1] = ky;
-    coordinates[at + 2] = kz;
+    coordinates[at + 2] = third_coordinate(kx, ky, r);
 }
 
 // Writes the coordinates of points of which none is refused.
 fn write_points(n: usize, shares: &[f64], r: u32, coordinates: &mut [i64])
     requires { ⌜ (r ≤ 24) × (length (now shares) ≡ 2 * n) × (length (now coordinates) ≡ 3 * n)
-        × (settled (Drawn.snapAll r (now shares)) ≡ done tt) ⌝ }
+        × (sharesAnswer (now shares) ≡ done tt) ⌝ }
     ensures { λ _. ⌜ now (coordinates .exit) ≡ new (Drawn.snapAll r (now (shares .entry))) ⌝ }
 {
     let mut i = 0;
@@ -237,7 +195,7 @@ fn write_points(n: usize, shares: &[f64], r: u32, coordinates: &mut [i64])
     }
 }
 
-// Snaps n points, two shares to each, to three coordinates each. Every point is looked at before the first is written.
+// Snaps n points, two shares to each, to three coordinates each. Every share is looked at before the first point is written.
 pub fn snap_points(n: usize, shares: &[f64], scale: u32, coordinates: &mut [i64]) -> SnapAnswer
     ensures answer { λ r. ⌜ snapToAnswer r ≡ snapCall n (now (shares .entry)) scale (now (coordinates .entry)) .answer ⌝ }
     ensures coordinates { λ r. ⌜ now (coordinates .exit) ≡ snapCall n (now (shares .entry)) scale (now (coordinates .entry)) .coordinates ⌝ }
@@ -248,7 +206,7 @@ pub fn snap_points(n: usize, shares: &[f64], scale: u32, coordinates: &mut [i64]
     }
     if scale_allowed(scale) {
         let r = exact_scale(scale);
-        let found = find_refusal(n, shares, r);
+        let found = find_refusal(shares);
         let SnapAnswer::Done = found else {
             return found;
         };

@@ -1,6 +1,6 @@
-// Snapping through the code. P9 to P11 are checked by `expect`, so they are proved of the code too. Then each pattern below is snapped at seven scales, two
-// of them not allowed, and a line is written: the pattern, the scale, the number of the answer (0 for done) and the whole number. The file stdout was
-// made with exact fractions.
+// Snapping through the code. P9 to P11 and four halves are checked by `expect`, so they are proved of the code too. Then each pattern below is snapped at
+// seven scales, two of them not allowed, and a line is written: the pattern, the scale, the number of the answer (0 for done) and the whole number. The
+// file stdout was made with exact fractions.
 ghost use mathlib.Core.Path.{_≡_};
 ghost use Rattle.snap_call.specs.Answer.{snapToAnswer};
 ghost use Rattle.snap_examples.specs.Seen.{numberOf, wholeOf};
@@ -50,14 +50,26 @@ fn paper() {
     let minus_zero = snapped(-0.0, 4);
     check::expect(minus_zero.whole == 0);
     let below_zero = snapped(-5e-324, 4);
-    check::expect(below_zero.whole == -1);
+    check::expect(below_zero.whole == 0);
     let two = snapped(2.0, 24);
     check::expect(two.whole == 33554432);
 }
 
-// Zeros; least and largest subnormals; the least normal numbers; powers of two from -30 to 0, 2, and the neighbours of each; a few others inside and
-// outside; the largest; infinities; no numbers. Each with both signs.
-const PATTERNS: [u64; 92] = [
+// At scale 4 these are 2.5 and 3.5 of either sign: halves go to the even number.
+fn halves() {
+    let between_2_and_3 = snapped(0.15625, 4);
+    check::expect(between_2_and_3.whole == 2);
+    let between_3_and_4 = snapped(0.21875, 4);
+    check::expect(between_3_and_4.whole == 4);
+    let below_minus_2 = snapped(-0.15625, 4);
+    check::expect(below_minus_2.whole == -2);
+    let below_minus_3 = snapped(-0.21875, 4);
+    check::expect(below_minus_3.whole == -4);
+}
+
+// Zeros; least and largest subnormals; the least normal numbers; powers of two from -30 to 0, 2, and the neighbours of each; what is halfway between two
+// steps at scale 4, 16, 20 or 24, and its neighbours; a few others inside and outside; the largest; infinities; no numbers. Each with both signs.
+const PATTERNS: [u64; 146] = [
     0x0000000000000000,
     0x8000000000000000,
     0x0000000000000001,
@@ -130,6 +142,60 @@ const PATTERNS: [u64; 92] = [
     0xc000000000000000,
     0x4000000000000001,
     0xc000000000000001,
+    0x3fb7ffffffffffff,
+    0xbfb7ffffffffffff,
+    0x3fb8000000000000,
+    0xbfb8000000000000,
+    0x3fb8000000000001,
+    0xbfb8000000000001,
+    0x3fc3ffffffffffff,
+    0xbfc3ffffffffffff,
+    0x3fc4000000000000,
+    0xbfc4000000000000,
+    0x3fc4000000000001,
+    0xbfc4000000000001,
+    0x3fcbffffffffffff,
+    0xbfcbffffffffffff,
+    0x3fcc000000000000,
+    0xbfcc000000000000,
+    0x3fcc000000000001,
+    0xbfcc000000000001,
+    0x3ff00007ffffffff,
+    0xbff00007ffffffff,
+    0x3ff0000800000000,
+    0xbff0000800000000,
+    0x3ff0000800000001,
+    0xbff0000800000001,
+    0x3ff00017ffffffff,
+    0xbff00017ffffffff,
+    0x3ff0001800000000,
+    0xbff0001800000000,
+    0x3ff0001800000001,
+    0xbff0001800000001,
+    0x3ff000007fffffff,
+    0xbff000007fffffff,
+    0x3ff0000080000000,
+    0xbff0000080000000,
+    0x3ff0000080000001,
+    0xbff0000080000001,
+    0x3ff000017fffffff,
+    0xbff000017fffffff,
+    0x3ff0000180000000,
+    0xbff0000180000000,
+    0x3ff0000180000001,
+    0xbff0000180000001,
+    0x3ff0000007ffffff,
+    0xbff0000007ffffff,
+    0x3ff0000008000000,
+    0xbff0000008000000,
+    0x3ff0000008000001,
+    0xbff0000008000001,
+    0x3ff0000017ffffff,
+    0xbff0000017ffffff,
+    0x3ff0000018000000,
+    0xbff0000018000000,
+    0x3ff0000018000001,
+    0xbff0000018000001,
     0x3fb999999999999a,
     0xbfb999999999999a,
     0x3fd5555555555555,
@@ -184,7 +250,7 @@ fn print(bits: u64, scale: u32, seen: Seen) {
 fn all(scale: u32) {
     let patterns = PATTERNS;
     let mut i = 0;
-    while i < 92 {
+    while i < 146 {
         let bits = patterns[i];
         print(bits, scale, snapped(share_of(bits), scale));
         i += 1;
@@ -193,6 +259,7 @@ fn all(scale: u32) {
 
 fn main() {
     paper();
+    halves();
     all(0);
     all(4);
     all(16);

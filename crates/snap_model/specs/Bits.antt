@@ -1,9 +1,11 @@
 -- The f64 that a bit pattern stands for, as a whole number of its smallest units, 2 ^ -1074. Assumes nothing.
 use Prim.Native.Nat.{ℕ, zero, suc, _+_, _*_, _/_, _%_, _^_, _<_}
+use native.Mathlib.Nat.{mul-one, mod-lt}
 use native.Mathlib.Omega.{arith}
 use mathlib.Core.Path.{_≡_}
 use mathlib.Core.Bool.{Bool, true, false, cond}
-use lib.Dec.{eqb, leb}
+use lib.Dec.{eqb, leb, lit<}
+use lib.Pow.{shl-lt}
 use lib.Ieee.{Float, nan, inf, binary64, top, hid, ones, ofBits, ofFields}
 use lib.Ieee.Exact.{HasValue, odd-sign}
 use borrow.Author.Tests.{ne-eqb}
@@ -22,6 +24,18 @@ negative n = leb (top binary64) n
 
 abbrev pub field : ℕ → ℕ
 field n = n % top binary64 / hid binary64
+
+-- fewer than 2 ^ (52 + field) units
+pub units-few : (n : ℕ) → units n < 2 ^ (52 + field n)
+unfolding units
+units-few n = go (field n) (n % hid binary64) (mod-lt n (lit< {m = 0} {n = hid binary64} tt))
+  where
+    go : (x t : ℕ) → t < hid binary64 → unitsOf x t < 2 ^ (52 + x)
+    go zero t h = omega (arith, mul-one t)
+    go (suc x) t h =
+        let e : 53 + x ≡ 52 + suc x = omega arith in
+        let l : (hid binary64 + t) * 2 ^ x < 2 ^ (53 + x) = shl-lt 53 x (omega arith) in
+        rw (← e) l
 
 -- A pattern whose field is not all ones stands for that many units, with the sign that its highest bit says.
 pub value : (n : ℕ) → field n < ones binary64 → HasValue (ofBits binary64 n) (negative n) (units n) (2 ^ 1074)

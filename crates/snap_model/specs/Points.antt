@@ -92,9 +92,10 @@ more r x y rest =
 pub not-refused : (why : Refusal) → _≡_ {A = Answer (Unit {0})} (refused why) (done tt) → ⊥
 not-refused why e = let z : _≡_ {A = ℕ} 0 1 = cc in omega arith
 
-settled-after : (ks : List ℤ) (w : Answer (List ℤ)) → settled (after (done ks) w) ≡ settled w
-settled-after ks (done bs) = refl
-settled-after ks (refused why) = refl
+pub settled-after : (a w : Answer (List ℤ)) → settled a ≡ done tt → settled (after a w) ≡ settled w
+settled-after (done ks) (done bs) e = refl
+settled-after (done ks) (refused why) e = refl
+settled-after (refused why) w e = absurd (not-refused why e)
 
 -- ---- points in turn: i of them are behind, 2 * i shares and 3 * i coordinates
 
@@ -112,34 +113,12 @@ point-at shares n i l h =
 drop-all : (shares : List Float) (n : ℕ) → length shares ≡ 2 * n → drop (2 * n) shares ≡ []
 drop-all shares n l = let h : length shares ≤ 2 * n = omega arith in drop-of-length-le shares h
 
--- Looking: the list is refused as what is left of it is.
-abbrev pub Same : ℕ → List Float → ℕ → Type 0
-Same r shares i = settled (snapAll r shares) ≡ settled (snapAll r (drop (2 * i) shares))
-
 module _ (r : ℕ) (shares : List Float) (n i : ℕ) (l : length shares ≡ 2 * n) (h : i < n) where
   abbrev At : Answer (List ℤ)
   At = snapAll r (getD shares (2 * i) nan ∷ getD shares (2 * i + 1) nan ∷ [])
 
   next : snapAll r (drop (2 * i) shares) ≡ after At (snapAll r (drop (2 * (i + 1)) shares))
   next = ap (snapAll r) (point-at shares n i l h) ∙ more r (getD shares (2 * i) nan) (getD shares (2 * i + 1) nan) (drop (2 * (i + 1)) shares)
-
-  -- a point that is refused ends it,
-  pub same-stop : (why : Refusal) → Same r shares i → At ≡ refused why → settled (snapAll r shares) ≡ refused why
-  same-stop why s e = s ∙ ap settled (next ∙ ap (λ (a : Answer (List ℤ)). after a (snapAll r (drop (2 * (i + 1)) shares))) e)
-
-  -- any other leads on,
-  pub same-on : (ks : List ℤ) → Same r shares i → At ≡ done ks → Same r shares (i + 1)
-  same-on ks s e =
-      s
-      ∙ ap settled (next ∙ ap (λ (a : Answer (List ℤ)). after a (snapAll r (drop (2 * (i + 1)) shares))) e)
-      ∙ settled-after ks (snapAll r (drop (2 * (i + 1)) shares))
-
--- and past the last one nothing is refused.
-pub same-end : (r : ℕ) (shares : List Float) (n : ℕ) → length shares ≡ 2 * n → Same r shares n → settled (snapAll r shares) ≡ done tt
-same-end r shares n l s = s ∙ ap (λ (xs : List Float). settled (snapAll r xs)) (drop-all shares n l) ∙ none
-  where
-    none : settled (snapAll r []) ≡ done tt
-    none = unfold snapAll in refl
 
 -- Writing: what is left is not refused, and its coordinates belong behind those that are written.
 pub record Filled (r : ℕ) (shares : List Float) (i : ℕ) (bs : List ℤ) : Type 0 where

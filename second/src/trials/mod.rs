@@ -68,6 +68,7 @@ const GROUPS: [(&str, &[Test]); 12] = [
         "snapping",
         &[
             snap::near_powers,
+            snap::halves,
             snap::random,
             snap::refused_shares,
             snap::lists,

@@ -1,10 +1,17 @@
 //! Tests of snapping: P9 to P11, rows 1, 2 and 14 to 16, shares near every
-//! power of two and every step, random bits, and lists of drawn points. Shares
-//! are held against exact integers (the slow reference) and against doubles.
+//! power of two and every step and half step, random bits, and lists of drawn
+//! points. Shares are held against exact integers (the slow reference) and
+//! against doubles.
 
 use super::{refused, sizes, Trials, WrongLength, FILL, WRONG_N};
 use crate::spheres::Rng;
 use crate::{damage, naive, snap, Answer, Extra, Refusal};
+
+/// The whole number of a share by doubles: scaling up by a power of two is
+/// exact, and so is rounding to a whole number.
+fn by_doubles(share: f64, r: u32) -> i64 {
+    (share * (1u64 << r) as f64).round_ties_even() as i64
+}
 
 impl Trials {
     pub(super) fn snap(&mut self, n: usize, scale: u32, points: &[f64]) -> Answer<Vec<i64>> {
@@ -17,12 +24,10 @@ impl Trials {
         answer.map(|()| out)
     }
 
-    /// One share that is let through, by exact integers and by doubles:
-    /// scaling up by a power of two and rounding down are exact there.
+    /// One share that is let through, by exact integers and by doubles.
     fn share(&mut self, share: f64, r: u32) {
         let got = snap::share(share, r);
-        let double = (share * (1u64 << r) as f64).floor() as i64;
-        let ok = matches!(got, Ok(k) if naive::snapped(share, r, k) && k == double);
+        let ok = matches!(got, Ok(k) if naive::snapped(share, r, k) && k == by_doubles(share, r));
         self.check(ok, || format!("share {share:e} at {r}: {got:?}"));
     }
 }
@@ -41,7 +46,7 @@ pub(super) fn checked(trials: &mut Trials) {
     for r in 4..=24 {
         trials.equal(snap::share(-0.0, r), Ok(0), "P9, -0");
         let largest = -f64::from_bits(1);
-        trials.equal(snap::share(largest, r), Ok(-1), "P10");
+        trials.equal(snap::share(largest, r), Ok(0), "P10");
     }
     trials.equal(snap::share(2.0, 24), Ok(33_554_432), "P11");
 }
@@ -85,7 +90,7 @@ pub(super) fn lengths(trials: &mut Trials) {
 }
 
 /// Shares of both signs at and beside every power of two, and at and beside
-/// whole steps of every scale.
+/// whole and half steps of every scale.
 pub(super) fn near_powers(trials: &mut Trials) {
     let mut shares = vec![0.0, 0.5, 1.0, 2.0, 1.0 / 3.0, 0.1];
     // Least and largest subnormal, least normal.
@@ -101,7 +106,14 @@ pub(super) fn near_powers(trials: &mut Trials) {
     for r in 4..=24 {
         let (one, two) = (1 << r, 1 << (r + 1));
         for k in [1, 2, 3, 7, one - 1, one, two - 1, two] {
-            shares.extend(beside((k as f64 / one as f64).to_bits()));
+            let k = k as f64;
+            shares.extend(
+                [k - 0.5, k]
+                    .map(|k| k / one as f64)
+                    .map(f64::to_bits)
+                    .into_iter()
+                    .flat_map(beside),
+            );
         }
     }
     for share in shares.clone() {
@@ -111,6 +123,29 @@ pub(super) fn near_powers(trials: &mut Trials) {
     for &share in &shares {
         for r in 4..=24 {
             trials.share(share, r);
+        }
+    }
+}
+
+/// Shares halfway between two steps, which go to the even one, and the shares
+/// next to them, which go to the nearer one.
+pub(super) fn halves(trials: &mut Trials) {
+    for r in 4..=24 {
+        for _ in 0..1000 {
+            let below = trials.rng.within(-(2 << r), (2 << r) - 1);
+            let above = below + 1;
+            let half = (below + above) as f64 / (2u64 << r) as f64;
+            let even = if below % 2 == 0 { below } else { above };
+            trials.equal(snap::share(half, r), Ok(even), "half");
+            let bits = half.to_bits();
+            let [smaller, larger] = [bits - 1, bits + 1].map(f64::from_bits);
+            let (nearer_0, farther) = if half > 0.0 {
+                (below, above)
+            } else {
+                (above, below)
+            };
+            trials.equal(snap::share(smaller, r), Ok(nearer_0), "beside a half");
+            trials.equal(snap::share(larger, r), Ok(farther), "beside a half");
         }
     }
 }
@@ -166,9 +201,8 @@ pub(super) fn lists(trials: &mut Trials) {
         let r = if scale == 0 { 20 } else { scale };
         let any = |rng: &mut Rng| rng.within(-2000, 2000) as f64 / 1000.0;
         let mut points: Vec<f64> = (0..2 * n).map(|_| any(rng)).collect();
-        let floor = |x: f64| (x * (1u64 << r) as f64).floor() as i64;
         let wanted = points.chunks(2).flat_map(|p| {
-            let (x, y) = (floor(p[0]), floor(p[1]));
+            let (x, y) = (by_doubles(p[0], r), by_doubles(p[1], r));
             [x, y, (1 << r) - x - y]
         });
         let wanted = wanted.collect();

@@ -8,7 +8,7 @@ abbrev Inv-loop : tie.InvT-loop
 Inv-loop scale patterns i₀ i = Unit
 
 abbrev μ-loop : tie.MeasureT-loop
-μ-loop scale patterns i₀ i = 92 - i
+μ-loop scale patterns i₀ i = 146 - i
 
 pub all-spec : {M : Type 1} → statement M
 all-spec =
