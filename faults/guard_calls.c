@@ -1,6 +1,6 @@
-/* The six public calls on buffers that end, or begin, at a guard page: document 01's shells, every row of its table
- * that a call can meet, and stacks of up to 4,096 vertices. What is due comes from the paper (see shells.h), never from
- * a program.
+/* The six public calls on buffers that end, or begin, at a guard page: document 01's shells, every row of the table
+ * that a call can meet, and stacks of up to 4,096 vertices. What is due comes from the papers (see shells.h), never
+ * from a program.
  *
  * Each trial is made with the exact lengths and with every length one less, one more and 0: on small meshes all
  * combinations of one less, exact and one more. After each call the answer, every byte of every buffer and the bytes
@@ -65,19 +65,19 @@ struct trial {
 #define PART(i) (void *)lent[i].at, len[i]
 
 static uint64_t make_check(const struct trial *t, const struct lent *lent, const size_t *len) {
-    return packmap_mesh_check(t->n, PART(0), PART(1));
+    return packmap_mesh_check(t->n, PART(0), PART(1), (void *)lent[2].at);
 }
 
 static uint64_t make_labels(const struct trial *t, const struct lent *lent, const size_t *len) {
-    return packmap_labels(t->n, PART(0), PART(1), PART(2));
+    return packmap_labels(t->n, PART(0), PART(1), PART(2), (void *)lent[3].at);
 }
 
 static uint64_t make_forward(const struct trial *t, const struct lent *lent, const size_t *len) {
-    return packmap_forward(t->n, PART(0), PART(1), PART(2), PART(3));
+    return packmap_forward(t->n, PART(0), PART(1), PART(2), PART(3), (void *)lent[4].at);
 }
 
 static uint64_t make_backward(const struct trial *t, const struct lent *lent, const size_t *len) {
-    return packmap_backward(t->n, PART(0), PART(1), PART(2), PART(3));
+    return packmap_backward(t->n, PART(0), PART(1), PART(2), PART(3), (void *)lent[4].at);
 }
 
 static uint64_t make_repair(const struct trial *t, const struct lent *lent, const size_t *len) {
@@ -88,13 +88,20 @@ static uint64_t make_snap(const struct trial *t, const struct lent *lent, const 
     return packmap_snap_points(t->n, PART(0), t->scale, PART(1), (void *)lent[2].at);
 }
 
-static const struct call CHECK = {"packmap_mesh_check", make_check, 2, {{TRIANGLES, READ}, {SCRATCH, WRITTEN}}};
+static const struct call CHECK = {
+    "packmap_mesh_check", make_check, 3, {{TRIANGLES, READ}, {SCRATCH, WRITTEN}, {ONE, WRITTEN}}};
 static const struct call LABEL = {
-    "packmap_labels", make_labels, 3, {{TRIANGLES, READ}, {LABELS, WRITTEN}, {SCRATCH, WRITTEN}}};
+    "packmap_labels", make_labels, 4, {{TRIANGLES, READ}, {LABELS, WRITTEN}, {SCRATCH, WRITTEN}, {ONE, WRITTEN}}};
 static const struct call FORWARD = {
-    "packmap_forward", make_forward, 4, {{TRIANGLES, READ}, {WEIGHTS, READ}, {COORDINATES, WRITTEN}, {SCRATCH, WRITTEN}}};
+    "packmap_forward",
+    make_forward,
+    5,
+    {{TRIANGLES, READ}, {WEIGHTS, READ}, {COORDINATES, WRITTEN}, {SCRATCH, WRITTEN}, {ONE, WRITTEN}}};
 static const struct call BACKWARD = {
-    "packmap_backward", make_backward, 4, {{TRIANGLES, READ}, {COORDINATES, READ}, {WEIGHTS, WRITTEN}, {SCRATCH, WRITTEN}}};
+    "packmap_backward",
+    make_backward,
+    5,
+    {{TRIANGLES, READ}, {COORDINATES, READ}, {WEIGHTS, WRITTEN}, {SCRATCH, WRITTEN}, {ONE, WRITTEN}}};
 static const struct call REPAIR = {
     "packmap_repair",
     make_repair,
@@ -218,34 +225,57 @@ struct mesh {
     const char *what;
     size_t n, sized;
     const uint16_t *triangles;
+    uint64_t vertex; /* that 7 or 25 carries */
 };
 
 static struct mesh fitting(const char *what, size_t n, const uint16_t *triangles) {
-    return (struct mesh){what, n, n, triangles};
+    return (struct mesh){what, n, n, triangles, 0};
+}
+
+static struct mesh broken_at(uint64_t vertex, struct mesh m) {
+    m.vertex = vertex;
+    return m;
+}
+
+/* A call on a mesh. Its last part is what the answer carries: with 7 and 25 the vertex. */
+static struct trial on(const struct mesh *m, const struct call *call, uint64_t number) {
+    struct trial t = {call, m->what, m->n, m->sized, 0, number, {m->triangles}, {0}};
+    if (number == 7 || number == 25)
+        t.after[call->parts - 1] = &m->vertex;
+    return t;
 }
 
 static void check(struct mesh m, uint64_t number) {
-    run(&(struct trial){&CHECK, m.what, m.n, m.sized, 0, number, {m.triangles}, {0}});
+    struct trial t = on(&m, &CHECK, number);
+    run(&t);
 }
 
 static void label(struct mesh m, uint64_t number, const uint8_t *labels) {
-    run(&(struct trial){&LABEL, m.what, m.n, m.sized, 0, number, {m.triangles}, {NULL, labels}});
+    struct trial t = on(&m, &LABEL, number);
+    t.after[1] = labels;
+    run(&t);
 }
 
 static void forward(struct mesh m, const int64_t *weights, uint64_t number, const int64_t *coordinates) {
-    run(&(struct trial){&FORWARD, m.what, m.n, m.sized, 0, number, {m.triangles, weights}, {NULL, NULL, coordinates}});
+    struct trial t = on(&m, &FORWARD, number);
+    t.before[1] = weights, t.after[2] = coordinates;
+    run(&t);
 }
 
 static void backward(struct mesh m, const int64_t *coordinates, uint64_t number, const int64_t *weights) {
-    run(&(struct trial){&BACKWARD, m.what, m.n, m.sized, 0, number, {m.triangles, coordinates}, {NULL, NULL, weights}});
+    struct trial t = on(&m, &BACKWARD, number);
+    t.before[1] = coordinates, t.after[2] = weights;
+    run(&t);
 }
 
-/* The count is due with 0 and 13 alone. */
+/* With 0 and 13 the count is carried. */
 static void repair(struct mesh m, const int64_t *weights, uint64_t number, uint64_t count, const int64_t *raised,
                    const int64_t *coordinates) {
-    const void *told = number == 0 || number == 13 ? &count : NULL;
-    run(&(struct trial){
-        &REPAIR, m.what, m.n, m.sized, 0, number, {m.triangles, weights}, {NULL, raised, coordinates, NULL, told}});
+    struct trial t = on(&m, &REPAIR, number);
+    t.before[1] = weights, t.after[1] = raised, t.after[2] = coordinates;
+    if (number == 0 || number == 13)
+        t.after[4] = &count;
+    run(&t);
 }
 
 /* A mesh that all five calls refuse with one number, whatever else they are given. */
@@ -290,14 +320,15 @@ static void rows_of_meshes(void) {
     /* No list of triangles fits these; modulo 2^16, 2^32 or 2^63 some seem to be 3. */
     const size_t none[] = {0, 1, 2, 4097, 65539, 4294967299, ((size_t)1 << 61) + 3, ((size_t)1 << 63) + 3, SIZE_MAX};
     for (size_t k = 0; k < sizeof none / sizeof *none; k++)
-        refused((struct mesh){"row 1", none[k], 3, PAIR}, 1);
-    refused((struct mesh){"n one more than the lists", 5, 4, TETRA}, 2);
-    refused((struct mesh){"n one less than the lists", 3, 4, TETRA}, 2);
+        refused((struct mesh){"row 1", none[k], 3, PAIR, 0}, 1);
+    refused((struct mesh){"n one more than the lists", 5, 4, TETRA, 0}, 2);
+    refused((struct mesh){"n one less than the lists", 3, 4, TETRA, 0}, 2);
     refused(fitting("row 3", 3, ROW3), 3);
     refused(fitting("row 4", 3, ROW4), 4);
     refused(fitting("row 5", 3, ROW5), 5);
     refused(fitting("row 6", 6, ROW6), 6);
-    refused(fitting("row 7", 8, ROW7), 7);
+    refused(broken_at(ROW7_VERTEX, fitting("row 7", 8, ROW7)), 7);
+    refused(broken_at(ROW25_VERTEX, fitting("row 25", 9, ROW25)), 25);
     refused(fitting("row 8", 11, ROW8), 8);
 }
 
@@ -345,9 +376,9 @@ static void stacks(size_t n) {
     const struct mesh m = fitting("stack", n, triangles);
     const size_t inner = 2 * n - 5;
 
-    for (int row = 3; row <= 8; row++) {
-        damaged_stack(n, row, triangles);
-        refused(fitting("damaged stack", n, triangles), (uint64_t)row);
+    for (size_t k = 0; k < DAMAGED_ROW_COUNT; k++) {
+        size_t vertex = damaged_stack(n, DAMAGED_ROWS[k], triangles);
+        refused(broken_at(vertex, fitting("damaged stack", n, triangles)), (uint64_t)DAMAGED_ROWS[k]);
     }
     stack(n, triangles);
     check(m, 0);

@@ -194,6 +194,7 @@ static void meshes_and_weights(void) {
     refused(job_text(3, ROW5, none), 5, 0);
     refused(job_text(6, ROW6, none), 6, 0);
     refused(job_text(8, ROW7, heavy), 7, 0);
+    refused(job_text(9, ROW25, heavy), 25, 0);
     refused(job_text(11, ROW8, heavy), 8, 0);
     refused(with(4, "t\t65535\t1\t2\n"), 3, 0);
     refused(job_text(4, TETRA, heavy), 9, 0);
@@ -206,9 +207,9 @@ static void meshes_and_weights(void) {
 static void stacks(size_t n) {
     static uint16_t triangles[CORNERS];
     static int64_t weights[WEIGHTS_MOST], raised[WEIGHTS_MOST], b[3 * MOST];
-    for (int row = 3; row <= 8; row++) {
-        damaged_stack(n, row, triangles);
-        refused(job_text(n, triangles, weights), (uint64_t)row, 0);
+    for (size_t k = 0; k < DAMAGED_ROW_COUNT; k++) {
+        damaged_stack(n, DAMAGED_ROWS[k], triangles);
+        refused(job_text(n, triangles, weights), (uint64_t)DAMAGED_ROWS[k], 0);
     }
     stack(n, triangles);
     memset(weights, 0, sizeof weights);

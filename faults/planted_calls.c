@@ -5,9 +5,9 @@
 
 /* The parameters of a call, and its arguments. */
 #define MESH size_t n, const uint16_t *triangles, size_t triangles_len
-#define SCRATCH int64_t *scratch, size_t scratch_len
+#define SCRATCH int64_t *scratch, size_t scratch_len, uint64_t *carried
 #define GIVEN_MESH n, triangles, triangles_len
-#define GIVEN_SCRATCH scratch, scratch_len
+#define GIVEN_SCRATCH scratch, scratch_len, carried
 
 uint64_t __real_packmap_mesh_check(MESH, SCRATCH);
 uint64_t __wrap_packmap_mesh_check(MESH, SCRATCH) {
@@ -20,6 +20,10 @@ uint64_t __wrap_packmap_mesh_check(MESH, SCRATCH) {
     uint64_t number = __real_packmap_mesh_check(GIVEN_MESH, GIVEN_SCRATCH);
     if (planted("another number") && number == 6)
         return 5;
+    if (planted("7 for a vertex in no triangle") && number == 25)
+        return 7;
+    if (planted("the highest such vertex") && number == 25)
+        *carried = n - 1;
     if (planted("scratch left dirty") && number == 7)
         scratch[scratch_len - 1] = 1;
     if (planted("scratch cleared on 2") && number == 2)
@@ -34,6 +38,8 @@ uint64_t __wrap_packmap_labels(MESH, uint8_t *labels, size_t labels_len, SCRATCH
         labels[labels_len] = 0;
     if (planted("writes before the start") && number == 0)
         labels[-1] = 0;
+    if (planted("carries something with 8") && number == 8)
+        *carried = 0;
     return number;
 }
 
@@ -51,19 +57,20 @@ uint64_t __wrap_packmap_forward(MESH, const int64_t *weights, size_t weights_len
 
 uint64_t __real_packmap_backward(MESH, const int64_t *b, size_t b_len, int64_t *weights, size_t weights_len, SCRATCH);
 uint64_t __wrap_packmap_backward(MESH, const int64_t *b, size_t b_len, int64_t *weights, size_t weights_len, SCRATCH) {
+    uint64_t held = *carried;
     uint64_t number = __real_packmap_backward(GIVEN_MESH, b, b_len, weights, weights_len, GIVEN_SCRATCH);
+    if (planted("tells no vertex with 7") && number == 7)
+        *carried = held;
     if (planted("changes what it only reads") && number == 0)
         ((int64_t *)b)[b_len - 1]++;
     return number;
 }
 
-uint64_t __real_packmap_repair(MESH, int64_t *weights, size_t weights_len, int64_t *b, size_t b_len, SCRATCH,
-                               uint64_t *count);
-uint64_t __wrap_packmap_repair(MESH, int64_t *weights, size_t weights_len, int64_t *b, size_t b_len, SCRATCH,
-                               uint64_t *count) {
-    uint64_t number = __real_packmap_repair(GIVEN_MESH, weights, weights_len, b, b_len, GIVEN_SCRATCH, count);
+uint64_t __real_packmap_repair(MESH, int64_t *weights, size_t weights_len, int64_t *b, size_t b_len, SCRATCH);
+uint64_t __wrap_packmap_repair(MESH, int64_t *weights, size_t weights_len, int64_t *b, size_t b_len, SCRATCH) {
+    uint64_t number = __real_packmap_repair(GIVEN_MESH, weights, weights_len, b, b_len, GIVEN_SCRATCH);
     if (planted("counts the raise that 13 refuses") && number == 13)
-        ++*count;
+        ++*carried;
     return number;
 }
 

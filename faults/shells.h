@@ -1,4 +1,4 @@
-/* Meshes whose answers are known from document 01 without a program: its own shells, and a stack of any size.
+/* Meshes whose answers are known from the papers without a program: document 01's shells, and a stack of any size.
  *
  * The stack: vertex 2 on top, 3 to n - 1 below it in turn, all joined to 0 and 1. Its inner triangles, in order, are
  * for each k from 3 to n - 1 a left one (0, k, k - 1) and a right one (k, 1, k - 1), then the last, (0, 1, n - 1).
@@ -20,13 +20,17 @@ static const uint16_t PAIR[] = {0, 2, 1, 0, 1, 2};
 static const uint16_t TETRA[] = {0, 2, 1, 0, 3, 2, 3, 1, 2, 0, 1, 3};
 static const uint16_t FIVE[] = {0, 2, 1, 0, 3, 2, 3, 1, 2, 0, 1, 4, 1, 3, 4, 3, 0, 4};
 
-/* The examples of rows 3 to 8. */
+/* The examples of rows 3 to 8, and of 25 the torus of row 8 on the vertices 0 to 6 of n = 9. Of 7 and 25 the vertex is
+ * due too: 3, the lower one of the tips, and 7, the lower one of those in no triangle. */
 static const uint16_t ROW3[] = {0, 2, 1, 0, 1, 3};
 static const uint16_t ROW4[] = {0, 2, 1, 0, 0, 1};
 static const uint16_t ROW5[] = {0, 2, 1, 0, 2, 1};
 static const uint16_t ROW6[] = {0, 1, 2, 0, 2, 3, 0, 3, 4, 0, 4, 5, 0, 5, 1, 1, 5, 4, 1, 4, 3, 2, 5, 3};
 static const uint16_t ROW7[] = {0, 1, 3, 1, 2, 3, 2, 0, 3, 1, 0, 4, 2, 1, 4, 0, 2, 4,
                                 5, 6, 3, 6, 7, 3, 7, 5, 3, 6, 5, 4, 7, 6, 4, 5, 7, 4};
+static const uint16_t ROW25[] = {0, 1, 3, 0, 3, 2, 1, 2, 4, 1, 4, 3, 2, 3, 5, 2, 5, 4, 3, 4, 6,
+                                 3, 6, 5, 4, 5, 0, 4, 0, 6, 5, 6, 1, 5, 1, 0, 6, 0, 2, 6, 2, 1};
+enum { ROW7_VERTEX = 3, ROW25_VERTEX = 7 };
 static const uint16_t ROW8[] = {0, 2, 1, 0, 3, 2,  3, 1,  2, 0, 1, 3, 4, 5, 7,  4, 7,  6, 5, 6, 8, 5,  8, 7, 6,  7, 9,
                                 6, 9, 8, 7, 8, 10, 7, 10, 9, 8, 9, 4, 8, 4, 10, 9, 10, 5, 9, 5, 4, 10, 4, 6, 10, 6, 5};
 
@@ -68,9 +72,13 @@ static inline uint64_t stack_raised(size_t n, int64_t *weights) {
     return n - 1;
 }
 
-/* A stack of n vertices, n being 16 or more, damaged so that a row from 3 to 8 refuses it. Rows 3 and 4 hold over the
- * whole mesh before a later row is looked at, so an earlier triangle breaks the next row. */
-static inline void damaged_stack(size_t n, int row, uint16_t *to) {
+/* A stack of n vertices, n being 16 or more, damaged so that one of these rows refuses it; with 7 and 25 the vertex
+ * that is due. Rows 3 and 4 hold over the whole mesh before a later row is looked at, so an earlier triangle breaks the
+ * next row. */
+static const int DAMAGED_ROWS[] = {3, 4, 5, 6, 7, 25, 8};
+enum { DAMAGED_ROW_COUNT = sizeof DAMAGED_ROWS / sizeof *DAMAGED_ROWS };
+
+static inline size_t damaged_stack(size_t n, int row, uint16_t *to) {
     uint16_t *last = to + 3 * (2 * n - 5), *end;
     stack(n, to);
     switch (row) {
@@ -95,7 +103,14 @@ static inline void damaged_stack(size_t n, int row, uint16_t *to) {
             end = triple(end, a, b, 2);
             end = triple(end, b, a, n - 4);
         }
-        break;
+        return 2;
+    case 25: /* a stack without vertex 3, and two triangles over 5, 7 and 9, which have two rings each then */
+        end = stack(n - 1, to);
+        for (uint16_t *v = to; v < end; v++)
+            *v += *v >= 3;
+        end = triple(end, 5, 7, 9);
+        triple(end, 5, 9, 7);
+        return 3;
     case 8: /* a stack and the torus of document 01 */
         end = stack(n - 7, to);
         for (size_t k = 0; k < 7; k++) {
@@ -104,6 +119,7 @@ static inline void damaged_stack(size_t n, int row, uint16_t *to) {
         }
         break;
     }
+    return 0;
 }
 
 #endif

@@ -17,6 +17,12 @@ enum call { CHECK, LABELS, FORWARD, BACKWARD, REPAIR, SNAP, JOB };
 
 #define TETRA_TEXT "pack-map\t4\nt\t0\t2\t1\nt\t0\t3\t2\nt\t3\t1\t2\nt\t0\t1\t3\n"
 
+/* Six spheres of two triangles each on the vertices 1 to 7, which share no side; no triangle touches vertex 0. */
+#define BOTH_WAYS(a, b, c) "t\t" a "\t" b "\t" c "\nt\t" a "\t" c "\t" b "\n"
+#define STRAY_TEXT                                                                                                     \
+    "pack-map\t8\n" BOTH_WAYS("1", "2", "3") BOTH_WAYS("1", "4", "5") BOTH_WAYS("1", "6", "7")                         \
+        BOTH_WAYS("2", "4", "6") BOTH_WAYS("2", "5", "7") BOTH_WAYS("3", "4", "7")
+
 static uint16_t pile[3 * (2 * SMALL - 4)]; /* the stack on 16 vertices */
 static char too_long[16385 + 1];           /* a text, without its 0 */
 
@@ -40,12 +46,15 @@ static const struct step {
     {CHECK, 5, 3, .triangles = ROW5},
     {CHECK, 6, 6, .triangles = ROW6},
     {CHECK, 7, 8, .triangles = ROW7},
+    {CHECK, 25, 9, .triangles = ROW25},
     {CHECK, 8, 11, .triangles = ROW8},
     {LABELS, 0, 5, .triangles = FIVE},
     {LABELS, 0, SMALL, .triangles = pile},
+    {LABELS, 7, 8, .triangles = ROW7},
     {LABELS, 8, 11, .triangles = ROW8},
     {FORWARD, 0, 4, .triangles = TETRA, .numbers = {5, 3, 2}},
     {FORWARD, 0, SMALL, .triangles = pile, .numbers = {5, 3, 2, -7}},
+    {FORWARD, 25, 9, .triangles = ROW25},
     {FORWARD, 9, 4, .triangles = TETRA, .numbers = {L, 1, 0}},
     {BACKWARD, 0, 4, .triangles = TETRA, .numbers = {10, 0, 0, 0, 10, 0, 0, 0, 10, 3, 5, 2}},
     {BACKWARD, 9, 4, .triangles = TETRA, .numbers = {1, 0, 0, 0, 1, 0, 0, 0, 1, L, -L, 1}},
@@ -54,6 +63,7 @@ static const struct step {
     {BACKWARD, 12, 4, .triangles = TETRA, .numbers = {9, 0, 0, 0, 9, 0, 0, 0, 9, 3, 5, 2}},
     {REPAIR, 0, 4, .triangles = TETRA, .numbers = {5, 3, -1}},
     {REPAIR, 0, SMALL, .triangles = pile},
+    {REPAIR, 25, 9, .triangles = ROW25},
     {REPAIR, 9, 4, .triangles = TETRA, .numbers = {L, 1, 0}},
     {REPAIR, 13, 4, .triangles = TETRA, .numbers = {1, -1073741821, 1}},
     {SNAP, 0, 3, .shares = {0.5, -0.0, 1, 2, -1, 0.1}, .scale = 4},
@@ -65,6 +75,7 @@ static const struct step {
     {JOB, 55, .text = TETRA_TEXT "w\t5\nw\t3\nw\t-1\n"},
     {JOB, 65536 + 1, .text = "pack-map\t2\n"},
     {JOB, 65536 + 4, .text = "pack-map\t3\nt\t0\t2\t1\nt\t0\t0\t1\nw\t0\n"},
+    {JOB, 65536 + 25, .text = STRAY_TEXT "w\t0\nw\t0\nw\t0\nw\t0\nw\t0\nw\t0\nw\t0\nw\t0\nw\t0\nw\t0\nw\t0\n"},
     {JOB, 65536 + 9, .text = TETRA_TEXT "w\t1073741823\nw\t1\nw\t0\n"},
     {JOB, 65536 + 13, .text = TETRA_TEXT "w\t1\nw\t-1073741821\nw\t1\n"},
     {JOB, 65536 * 9 + 17, .text = TETRA_TEXT "w\t5\nw\t3\nw\t-0\n"},
@@ -76,24 +87,24 @@ enum { STEP_COUNT = sizeof STEPS / sizeof *STEPS };
 static uint64_t make(const struct step *s) {
     static int64_t scratch[24 * SMALL], weights[2 * SMALL - 5], coordinates[3 * SMALL];
     static uint8_t labels[3 * (2 * SMALL - 5)], listing[LISTING];
-    uint64_t count;
+    uint64_t carried;
     double outside;
     const size_t n = s->n, t = 3 * (2 * n - 4), w = 2 * n - 5, b = 3 * n, left = 24 * n - s->cut;
     switch (s->call) {
     case CHECK:
-        return packmap_mesh_check(n, s->triangles, t, scratch, left);
+        return packmap_mesh_check(n, s->triangles, t, scratch, left, &carried);
     case LABELS:
-        return packmap_labels(n, s->triangles, t, labels, 3 * w, scratch, left);
+        return packmap_labels(n, s->triangles, t, labels, 3 * w, scratch, left, &carried);
     case FORWARD:
         memset(weights, 0, sizeof weights);
         memcpy(weights, s->numbers, sizeof s->numbers);
-        return packmap_forward(n, s->triangles, t, weights, w, coordinates, b, scratch, left);
+        return packmap_forward(n, s->triangles, t, weights, w, coordinates, b, scratch, left, &carried);
     case BACKWARD:
-        return packmap_backward(n, s->triangles, t, s->numbers, b, weights, w, scratch, left);
+        return packmap_backward(n, s->triangles, t, s->numbers, b, weights, w, scratch, left, &carried);
     case REPAIR:
         memset(weights, 0, sizeof weights);
         memcpy(weights, s->numbers, sizeof s->numbers);
-        return packmap_repair(n, s->triangles, t, weights, w, coordinates, b, scratch, left, &count);
+        return packmap_repair(n, s->triangles, t, weights, w, coordinates, b, scratch, left, &carried);
     case SNAP:
         return packmap_snap_points(n, s->shares, 2 * n, s->scale, coordinates, b - s->cut, &outside);
     default:

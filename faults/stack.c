@@ -17,30 +17,29 @@ static uint8_t labels[PACKMAP_LABELS(N)], text[PACKMAP_BYTES], listing[PACKMAP_B
 static int64_t weights[WEIGHTS_MOST], coordinates[PACKMAP_COORDINATES(N)], scratch[PACKMAP_SCRATCH(N)];
 static double shares[PACKMAP_SHARES(N)];
 static size_t text_len;
-static uint64_t answer;
+static uint64_t answer, carried;
 
 static void check(void) {
-    answer = packmap_mesh_check(N, triangles, CORNERS, scratch, PACKMAP_SCRATCH(N));
+    answer = packmap_mesh_check(N, triangles, CORNERS, scratch, PACKMAP_SCRATCH(N), &carried);
 }
 
 static void label(void) {
-    answer = packmap_labels(N, triangles, CORNERS, labels, sizeof labels, scratch, PACKMAP_SCRATCH(N));
+    answer = packmap_labels(N, triangles, CORNERS, labels, sizeof labels, scratch, PACKMAP_SCRATCH(N), &carried);
 }
 
 static void forward(void) {
     answer = packmap_forward(N, triangles, CORNERS, weights, WEIGHTS_MOST, coordinates, PACKMAP_COORDINATES(N), scratch,
-                             PACKMAP_SCRATCH(N));
+                             PACKMAP_SCRATCH(N), &carried);
 }
 
 static void backward(void) {
     answer = packmap_backward(N, triangles, CORNERS, coordinates, PACKMAP_COORDINATES(N), weights, WEIGHTS_MOST,
-                              scratch, PACKMAP_SCRATCH(N));
+                              scratch, PACKMAP_SCRATCH(N), &carried);
 }
 
 static void repair(void) {
-    uint64_t count;
     answer = packmap_repair(N, triangles, CORNERS, weights, WEIGHTS_MOST, coordinates, PACKMAP_COORDINATES(N), scratch,
-                            PACKMAP_SCRATCH(N), &count);
+                            PACKMAP_SCRATCH(N), &carried);
 }
 
 static void snap(void) {

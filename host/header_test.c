@@ -32,12 +32,16 @@ static void lengths(void) {
 }
 
 static void words(void) {
-    for (uint64_t k = 0; k <= 20; k++)
+    const uint64_t none = UINT64_MAX;
+    for (uint64_t k = 0; k <= 26; k++) {
+        int is_answer = k <= 19 || k == 25;
+        HOLDS((strcmp(packmap_words(k), packmap_words(none)) != 0) == is_answer);
         for (uint64_t m = 0; m < k; m++)
-            HOLDS(strcmp(packmap_words(k), packmap_words(m)) != 0);
+            HOLDS(!is_answer || strcmp(packmap_words(k), packmap_words(m)) != 0);
+    }
     HOLDS(strcmp(packmap_words(PACKMAP_DONE), "done") == 0);
-    HOLDS(strcmp(packmap_words(20), packmap_words(UINT64_MAX)) == 0);
     HOLDS(PACKMAP_REFUSED_PIECES == 8 && PACKMAP_REFUSED_RAISE == 13 && PACKMAP_REFUSED_TEXT == 19);
+    HOLDS(PACKMAP_REFUSED_RING == 7 && PACKMAP_REFUSED_STRAY == 25);
 }
 
 static void answers(void) {

@@ -7,8 +7,8 @@
  * Slices. A slice is a pointer and a number of items. The caller lends it for the time of a call.
  *   - Its length is exact: for n vertices the macros below tell it. A slice of another length is refused with 2.
  *   - Its pointer is not null, not even for a length of 0, and aligned for its type.
- *   - No slice that a call may write overlaps another one of that call. The same goes for *count and *outside, which
- *     are written as a slice of one item is.
+ *   - No slice that a call may write overlaps another one of that call. The same goes for *carried and *outside, which
+ *     are lent and written as a slice of one item is.
  *   - Triangles are triples of vertex numbers from 0. The first is the outer one: its vertices, as listed, are v0, v2,
  *     v1. The others are inner; weights and labels stand in their order.
  *   - Coordinates are b0, b1, b2 of each vertex; shares are x, y of each drawn point.
@@ -17,6 +17,10 @@
  * Answers. A call answers 0, or the number of its refusal (enum packmap_refusal). A refusal leaves every slice as it
  * was, save that scratch holds zeros after every answer but 1 and 2, and save what packmap_repair says of 13. Rows are
  * asked in the order in which a call lists them below.
+ *
+ * Every call on a mesh leaves a number in *carried where its answer comes with one: with 7 and 25 the vertex, the
+ * lowest for which either is true; with 0 and 13 of packmap_repair the number of raises made. Else *carried keeps what
+ * it held.
  *
  * Threads, memory, time. No call keeps anything from one call to the next, allocates, locks, waits, or touches a byte
  * outside its slices and the stack. So calls may run on any number of threads at once, and in a signal handler, as long
@@ -77,7 +81,8 @@ enum packmap_refusal {
     PACKMAP_REFUSED_SHARE = 16,
     PACKMAP_REFUSED_LINE = 17,
     PACKMAP_REFUSED_LISTING = 18,
-    PACKMAP_REFUSED_TEXT = 19
+    PACKMAP_REFUSED_TEXT = 19,
+    PACKMAP_REFUSED_STRAY = 25
 };
 
 /* What a number says, in words; of a number that is none of these, "not an answer". */
@@ -98,7 +103,7 @@ static inline const char *packmap_words(uint64_t number) {
     case PACKMAP_REFUSED_SIDE_ALONE:
         return "a side has no triangle on its other side";
     case PACKMAP_REFUSED_RING:
-        return "the triangles at a vertex are not one ring";
+        return "the triangles at a vertex form several rings";
     case PACKMAP_REFUSED_PIECES:
         return "the mesh has several pieces";
     case PACKMAP_REFUSED_WEIGHTS:
@@ -123,6 +128,8 @@ static inline const char *packmap_words(uint64_t number) {
         return "the listing buffer is too short";
     case PACKMAP_REFUSED_TEXT:
         return "the text is too long";
+    case PACKMAP_REFUSED_STRAY:
+        return "a vertex is in no triangle";
     default:
         return "not an answer";
     }
@@ -130,30 +137,30 @@ static inline const char *packmap_words(uint64_t number) {
 
 /* ---- calls on lent slices */
 
-/* Whether the mesh is a sphere: 1, 2, 3 to 8. */
+/* Whether the mesh is a sphere: 1, 2, 3 to 6, 7 or 25, 8. */
 uint64_t packmap_mesh_check(size_t n, const uint16_t *triangles, size_t triangles_len, int64_t *scratch,
-                            size_t scratch_len);
+                            size_t scratch_len, uint64_t *carried);
 
-/* Writes the labels 0, 1, 2 of the inner triangles' corners: 1, 2, 3 to 8. */
+/* Writes the labels 0, 1, 2 of the inner triangles' corners: 1, 2, 3 to 6, 7 or 25, 8. */
 uint64_t packmap_labels(size_t n, const uint16_t *triangles, size_t triangles_len, uint8_t *labels, size_t labels_len,
-                        int64_t *scratch, size_t scratch_len);
+                        int64_t *scratch, size_t scratch_len, uint64_t *carried);
 
-/* Writes the coordinates of weights: 1, 2, 3 to 8, 9. */
+/* Writes the coordinates of weights: 1, 2, 3 to 6, 7 or 25, 8, 9. */
 uint64_t packmap_forward(size_t n, const uint16_t *triangles, size_t triangles_len, const int64_t *weights,
                          size_t weights_len, int64_t *coordinates, size_t coordinates_len, int64_t *scratch,
-                         size_t scratch_len);
+                         size_t scratch_len, uint64_t *carried);
 
-/* Writes the weights of coordinates: 1, 2, 3 to 8, 10, 11, 12, 9. */
+/* Writes the weights of coordinates: 1, 2, 3 to 6, 7 or 25, 8, 10, 11, 12, 9. */
 uint64_t packmap_backward(size_t n, const uint16_t *triangles, size_t triangles_len, const int64_t *coordinates,
                           size_t coordinates_len, int64_t *weights, size_t weights_len, int64_t *scratch,
-                          size_t scratch_len);
+                          size_t scratch_len, uint64_t *carried);
 
-/* Raises weights until no inner triangle is flat or turned, and writes their coordinates: 1, 2, 3 to 8, 9, 13. With 0
- * and with 13 the number of raises made is left in *count, which else keeps what it held; 13 leaves the weights as
- * after the last full raise, and their coordinates written. */
+/* Raises weights until no inner triangle is flat or turned, and writes their coordinates: 1, 2, 3 to 6, 7 or 25, 8, 9,
+ * 13. Its raises are counted in *carried; 13 leaves the weights as after the last full raise, and their coordinates
+ * written. */
 uint64_t packmap_repair(size_t n, const uint16_t *triangles, size_t triangles_len, int64_t *weights, size_t weights_len,
                         int64_t *coordinates, size_t coordinates_len, int64_t *scratch, size_t scratch_len,
-                        uint64_t *count);
+                        uint64_t *carried);
 
 /* Writes the coordinates of drawn points at a scale r of 4 to 24, or 0 for 20: 1, 2, 14, then 15 and 16 share by share.
  * A share goes to the whole number nearest to it times 2^r, halves to the even one; the third coordinate of a point is
@@ -170,9 +177,9 @@ uint64_t packmap_snap_points(size_t n, const double *shares, size_t shares_len, 
 #define PACKMAP_BYTES 16384
 
 /* Reads the job in the text, repairs its weights and writes the listing to the front of the buffer: 19, lines in turn
- * (17, and 1 after the first), 3 to 8, 9, 13, 18. It answers the listing's length, and bytes past the listing keep what
- * they held; or a refusal, which leaves the whole buffer as it was. The functions below take the answer apart. A buffer
- * is a slice as above: not null, and not overlapping the text. */
+ * (17, and 1 after the first), 3 to 6, 7 or 25, 8, 9, 13, 18. It answers the listing's length, and bytes past the
+ * listing keep what they held; or a refusal, which leaves the whole buffer as it was. The functions below take the
+ * answer apart. A buffer is a slice as above: not null, and not overlapping the text. */
 uint64_t packmap_job(const uint8_t *text, size_t text_len, uint8_t *listing, size_t listing_len);
 
 /* Whether the job was refused; the answer is then 65,536 * (1 + line) + number. */

@@ -1,5 +1,6 @@
-/* Every call on lent slices, by the example of a shell of 1,000 vertices: it is checked, labelled, mapped from weights
- * to coordinates and back, and then a drawing of it that is bent in places is snapped to whole numbers and repaired.
+/* Every call on lent slices, by the example of a shell of 1,000 vertices: two bad scans of it are refused, and it is
+ * checked, labelled, mapped from weights to coordinates and back; then a drawing of it that is bent in places is
+ * snapped to whole numbers and repaired.
  *
  *     cc -IFOLDER/include host/shell.c -LFOLDER/lib -lpackmap && ./a.out
  *
@@ -61,6 +62,13 @@ static void make_shell(void) {
     }
 }
 
+/* Every triangle at a vertex gets another one in its place. */
+static void rename_vertex(uint16_t from, uint16_t to) {
+    for (size_t k = 0; k < ITEMS(triangles); k++)
+        if (triangles[k] == from)
+            triangles[k] = to;
+}
+
 /* A drawing in doubles. Each ring is smaller than the one before it, but every 50th is drawn too large, so that
  * triangles beside it are turned. The shares of a vertex say how near to v0 and to v1 it is drawn. */
 static void draw_shell(void) {
@@ -93,23 +101,34 @@ static int labelled(void) {
 }
 
 int main(void) {
-    uint64_t raises = 0;
+    uint64_t number, carried = 0;
     double outside = 0;
 
+    /* a scan that took two far vertices for one is refused, and the call tells where to look */
     make_shell();
-    done("check", packmap_mesh_check(N, triangles, ITEMS(triangles), scratch, ITEMS(scratch)));
+    rename_vertex(600, 300);
+    number = packmap_mesh_check(N, triangles, ITEMS(triangles), scratch, ITEMS(scratch), &carried);
+    holds("600 scanned as 300: vertex 300 has several rings", number == PACKMAP_REFUSED_RING && carried == 300);
+    make_shell();
+    rename_vertex(300, 600);
+    number = packmap_mesh_check(N, triangles, ITEMS(triangles), scratch, ITEMS(scratch), &carried);
+    holds("300 scanned as 600: vertex 300 is in no triangle", number == PACKMAP_REFUSED_STRAY && carried == 300);
+
+    make_shell();
+    done("check", packmap_mesh_check(N, triangles, ITEMS(triangles), scratch, ITEMS(scratch), &carried));
     printf("a sphere of %d vertices and %d triangles\n", N, (int)(ITEMS(triangles) / 3));
-    done("labels", packmap_labels(N, triangles, ITEMS(triangles), labels, ITEMS(labels), scratch, ITEMS(scratch)));
+    done("labels",
+         packmap_labels(N, triangles, ITEMS(triangles), labels, ITEMS(labels), scratch, ITEMS(scratch), &carried));
     holds("labels 0, 1, 2 along each triangle", labelled());
 
     /* weights that are all 1 give a drawing with no triangle flat or turned, and come back from it */
     for (size_t t = 0; t < ITEMS(weights); t++)
         weights[t] = 1;
     done("forward", packmap_forward(N, triangles, ITEMS(triangles), weights, ITEMS(weights), coordinates,
-                                    ITEMS(coordinates), scratch, ITEMS(scratch)));
+                                    ITEMS(coordinates), scratch, ITEMS(scratch), &carried));
     holds("weights of 1: no triangle flat or turned", flat_or_turned(coordinates) == 0);
     done("backward", packmap_backward(N, triangles, ITEMS(triangles), coordinates, ITEMS(coordinates), again,
-                                      ITEMS(again), scratch, ITEMS(scratch)));
+                                      ITEMS(again), scratch, ITEMS(scratch), &carried));
     holds("the same weights come back", memcmp(weights, again, sizeof weights) == 0);
 
     /* a drawing in doubles becomes coordinates, these give weights, and the weights are repaired */
@@ -118,10 +137,11 @@ int main(void) {
     size_t bent = flat_or_turned(coordinates);
     printf("the drawing in doubles, snapped: %u triangles flat or turned\n", (unsigned)bent);
     done("backward", packmap_backward(N, triangles, ITEMS(triangles), coordinates, ITEMS(coordinates), weights,
-                                      ITEMS(weights), scratch, ITEMS(scratch)));
+                                      ITEMS(weights), scratch, ITEMS(scratch), &carried));
     memcpy(again, weights, sizeof weights);
     done("repair", packmap_repair(N, triangles, ITEMS(triangles), weights, ITEMS(weights), coordinates,
-                                  ITEMS(coordinates), scratch, ITEMS(scratch), &raises));
+                                  ITEMS(coordinates), scratch, ITEMS(scratch), &carried));
+    uint64_t raises = carried;
     printf("repaired with %u raises\n", (unsigned)raises);
     holds("there was something to repair", bent > 0 && raises > 0);
     holds("no triangle flat or turned any more", flat_or_turned(coordinates) == 0);
@@ -130,7 +150,7 @@ int main(void) {
         changed += weights[t] != again[t];
     holds("as many weights changed as raises were made", changed == raises);
     done("forward", packmap_forward(N, triangles, ITEMS(triangles), weights, ITEMS(weights), redrawn, ITEMS(redrawn),
-                                    scratch, ITEMS(scratch)));
+                                    scratch, ITEMS(scratch), &carried));
     holds("the coordinates are those of the repaired weights", memcmp(coordinates, redrawn, sizeof redrawn) == 0);
     return 0;
 }

@@ -82,7 +82,7 @@ fn damaged(tally: &mut Tally, work: &mut Work, rng: &mut Rng, number: u8) {
 pub fn run(count: usize, seed: u64) -> Tally {
     let mut rng = Rng(seed);
     let mut work = Work::default();
-    let mut tally = Tally::new("job", &[0, 1, 3, 4, 5, 6, 7, 8, 9, 13, 17, 18, 19]);
+    let mut tally = Tally::new("job", &[0, 1, 3, 4, 5, 6, 7, 25, 8, 9, 13, 17, 18, 19]);
     known(&mut tally, EXAMPLE.as_bytes(), Ok(LISTING.as_bytes()));
     for round in 0..count {
         let mut text = random(&mut rng);

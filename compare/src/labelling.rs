@@ -21,12 +21,12 @@ fn one(tally: &mut Tally, work: &mut Work, n: usize, triangles: &[u16], cut: usi
 pub fn run(count: usize, seed: u64) -> Tally {
     let mut rng = Rng(seed);
     let mut work = Work::default();
-    let mut tally = Tally::new("labels", &[0, 1, 2, 3, 4, 5, 6, 7, 8]);
+    let mut tally = Tally::new("labels", &[0, 1, 2, 3, 4, 5, 6, 7, 25, 8]);
     one(&mut tally, &mut work, 2, &[], 0);
     for round in 0..count {
         let n = if round < 3 { 4096 } else { vertices(&mut rng) };
         if rng.chance(8) {
-            let number = 3 + rng.below(6) as u8;
+            let number = damage::MESH_NUMBERS[rng.below(7)];
             let bad = damage::mesh(&mut rng, number, n);
             one(&mut tally, &mut work, bad.n, &bad.triangles, 0);
         } else {

@@ -67,8 +67,8 @@ fn anywhere(rng: &mut Rng, n: usize, outer: [u16; 3]) -> Vec<i64> {
 pub fn run(count: usize, seed: u64) -> [Tally; 2] {
     let mut rng = Rng(seed);
     let mut work = Work::default();
-    let mut forward = Tally::new("forward", &[0, 1, 2, 3, 4, 5, 6, 7, 8, 9]);
-    let mut backward = Tally::new("backward", &[0, 1, 2, 3, 4, 5, 6, 7, 8, 9, 10, 11, 12]);
+    let mut forward = Tally::new("forward", &[0, 1, 2, 3, 4, 5, 6, 7, 25, 8, 9]);
+    let mut backward = Tally::new("backward", &[0, 1, 2, 3, 4, 5, 6, 7, 25, 8, 9, 10, 11, 12]);
     forth(&mut forward, &mut work, 2, &[], &[]);
     back(&mut backward, &mut work, 2, &[], &[]);
     for round in 0..count {
@@ -100,7 +100,7 @@ pub fn run(count: usize, seed: u64) -> [Tally; 2] {
         };
         back(&mut backward, &mut work, n, &mesh, &asked);
         if rng.chance(16) {
-            let number = 3 + rng.below(6) as u8;
+            let number = damage::MESH_NUMBERS[rng.below(7)];
             let bad = damage::mesh(&mut rng, number, n.min(40));
             forth(
                 &mut forward,

@@ -37,14 +37,14 @@ fn one(tally: &mut Tally, work: &mut Work, n: usize, triangles: &[u16], len: usi
 pub fn run(count: usize, seed: u64) -> Tally {
     let mut rng = Rng(seed);
     let mut work = Work::default();
-    let mut tally = Tally::new("mesh check", &[0, 1, 2, 3, 4, 5, 6, 7, 8]);
+    let mut tally = Tally::new("mesh check", &[0, 1, 2, 3, 4, 5, 6, 7, 25, 8]);
     for round in 0..count {
         let n = if round == 0 { 4096 } else { vertices(&mut rng) };
         let whole = Sizes::of(n).map_or(0, |s| s.scratch);
         let triangles = if rng.chance(4) {
             spheres::sphere(&mut rng, n)
         } else {
-            let number = 3 + rng.below(6) as u8;
+            let number = damage::MESH_NUMBERS[rng.below(7)];
             let bad = damage::mesh(&mut rng, number, n);
             one(&mut tally, &mut work, bad.n, &bad.triangles, 24 * bad.n);
             continue;

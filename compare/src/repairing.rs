@@ -50,7 +50,7 @@ fn paper(tally: &mut Tally, weights: [i64; 3], wanted: Answer<usize>, left: [i64
 pub fn run(count: usize, seed: u64) -> Tally {
     let mut rng = Rng(seed);
     let mut work = Work::default();
-    let mut tally = Tally::new("repair", &[0, 1, 2, 3, 4, 5, 6, 7, 8, 9, 13]);
+    let mut tally = Tally::new("repair", &[0, 1, 2, 3, 4, 5, 6, 7, 25, 8, 9, 13]);
     paper(&mut tally, [5, 3, -1], Ok(1), [5, 3, 1]);
     paper(&mut tally, [0, 0, 0], Ok(3), [1, 1, 1]);
     paper(&mut tally, [-1, -1, -1], Ok(0), [-1, -1, -1]);
@@ -72,7 +72,7 @@ pub fn run(count: usize, seed: u64) -> Tally {
         };
         one(&mut tally, &mut work, n, &mesh, &weights);
         if rng.chance(16) {
-            let number = 3 + rng.below(6) as u8;
+            let number = damage::MESH_NUMBERS[rng.below(7)];
             let bad = damage::mesh(&mut rng, number, n.min(40));
             one(
                 &mut tally,

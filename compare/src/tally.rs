@@ -8,6 +8,12 @@ pub fn told<T>(answer: Result<T, Refusal>) -> Answer<T> {
     answer.map_err(|refusal| second::Refusal {
         number: refusal.number(),
         extra: match refusal {
+            Refusal::Ring {
+                vertex: Some(vertex),
+            }
+            | Refusal::Stray {
+                vertex: Some(vertex),
+            } => Extra::Vertex(vertex as usize),
             Refusal::Raise {
                 raises: Some(raises),
             } => Extra::Count(raises as usize),
@@ -21,7 +27,7 @@ pub fn told<T>(answer: Result<T, Refusal>) -> Answer<T> {
 pub struct Tally {
     name: &'static str,
     wanted: &'static [usize],
-    met: [u64; 20],
+    met: [u64; 26],
     agree: u64,
     differ: u64,
 }
@@ -32,7 +38,7 @@ impl Tally {
         Tally {
             name,
             wanted,
-            met: [0; 20],
+            met: [0; 26],
             agree: 0,
             differ: 0,
         }

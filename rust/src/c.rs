@@ -7,6 +7,7 @@ extern "C" {
         triangles_len: usize,
         scratch: *mut i64,
         scratch_len: usize,
+        carried: *mut u64,
     ) -> u64;
 
     pub fn packmap_labels(
@@ -17,6 +18,7 @@ extern "C" {
         labels_len: usize,
         scratch: *mut i64,
         scratch_len: usize,
+        carried: *mut u64,
     ) -> u64;
 
     pub fn packmap_forward(
@@ -29,6 +31,7 @@ extern "C" {
         coordinates_len: usize,
         scratch: *mut i64,
         scratch_len: usize,
+        carried: *mut u64,
     ) -> u64;
 
     pub fn packmap_backward(
@@ -41,6 +44,7 @@ extern "C" {
         weights_len: usize,
         scratch: *mut i64,
         scratch_len: usize,
+        carried: *mut u64,
     ) -> u64;
 
     pub fn packmap_repair(
@@ -53,7 +57,7 @@ extern "C" {
         coordinates_len: usize,
         scratch: *mut i64,
         scratch_len: usize,
-        count: *mut u64,
+        carried: *mut u64,
     ) -> u64;
 
     pub fn packmap_snap_points(

@@ -5,15 +5,23 @@ use crate::refusal::Refusal;
 
 // SAFETY of every call below: a pointer and a length come from one slice, so the pointer is not
 // null, is aligned and leads to as many items. The slices are borrowed until the call returns,
-// those that it writes exclusively, so they do not overlap. The calls have no other demands: they
+// those that it writes exclusively, so they do not overlap; what a call carries goes to a local. The calls have no other demands: they
 // test lengths and contents themselves, and keep no pointer.
 
-/// Nothing, or the refusal of a number other than 0.
+/// Nothing, or the refusal of a call on a mesh: `call` answers its number, and leaves what it
+/// carries in the number that it is lent.
 #[inline]
-fn done(number: u64) -> Result<(), Refusal> {
-    match number {
-        0 => Ok(()),
-        _ => Err(Refusal::plain(number)),
+fn done(call: impl FnOnce(&mut u64) -> u64) -> Result<(), Refusal> {
+    counted(call).map(|_| ())
+}
+
+/// The same, with what the call carries where it is not refused.
+#[inline]
+fn counted(call: impl FnOnce(&mut u64) -> u64) -> Result<u64, Refusal> {
+    let mut carried = 0;
+    match call(&mut carried) {
+        0 => Ok(carried),
+        number => Err(Refusal::carrying(number, carried)),
     }
 }
 
@@ -24,17 +32,18 @@ fn done(number: u64) -> Result<(), Refusal> {
 /// [`VertexCount`](Refusal::VertexCount), [`Length`](Refusal::Length),
 /// [`VertexNumber`](Refusal::VertexNumber), [`VertexTwice`](Refusal::VertexTwice),
 /// [`SideTwice`](Refusal::SideTwice), [`SideAlone`](Refusal::SideAlone),
-/// [`Ring`](Refusal::Ring), [`Pieces`](Refusal::Pieces).
+/// [`Ring`](Refusal::Ring) or [`Stray`](Refusal::Stray), [`Pieces`](Refusal::Pieces).
 #[inline]
 pub fn check(n: usize, triangles: &[u16], scratch: &mut [i64]) -> Result<(), Refusal> {
     // SAFETY: see above.
-    done(unsafe {
+    done(|carried| unsafe {
         c::packmap_mesh_check(
             n,
             triangles.as_ptr(),
             triangles.len(),
             scratch.as_mut_ptr(),
             scratch.len(),
+            carried,
         )
     })
 }
@@ -53,7 +62,7 @@ pub fn labels(
     scratch: &mut [i64],
 ) -> Result<(), Refusal> {
     // SAFETY: see above.
-    done(unsafe {
+    done(|carried| unsafe {
         c::packmap_labels(
             n,
             triangles.as_ptr(),
@@ -62,6 +71,7 @@ pub fn labels(
             labels.len(),
             scratch.as_mut_ptr(),
             scratch.len(),
+            carried,
         )
     })
 }
@@ -81,7 +91,7 @@ pub fn forward(
     scratch: &mut [i64],
 ) -> Result<(), Refusal> {
     // SAFETY: see above.
-    done(unsafe {
+    done(|carried| unsafe {
         c::packmap_forward(
             n,
             triangles.as_ptr(),
@@ -92,6 +102,7 @@ pub fn forward(
             coordinates.len(),
             scratch.as_mut_ptr(),
             scratch.len(),
+            carried,
         )
     })
 }
@@ -111,7 +122,7 @@ pub fn backward(
     scratch: &mut [i64],
 ) -> Result<(), Refusal> {
     // SAFETY: see above.
-    done(unsafe {
+    done(|carried| unsafe {
         c::packmap_backward(
             n,
             triangles.as_ptr(),
@@ -122,6 +133,7 @@ pub fn backward(
             weights.len(),
             scratch.as_mut_ptr(),
             scratch.len(),
+            carried,
         )
     })
 }
@@ -142,9 +154,8 @@ pub fn repair(
     coordinates: &mut [i64],
     scratch: &mut [i64],
 ) -> Result<u64, Refusal> {
-    let mut raises = 0;
-    // SAFETY: see above; the count is written to a local.
-    let number = unsafe {
+    // SAFETY: see above.
+    counted(|carried| unsafe {
         c::packmap_repair(
             n,
             triangles.as_ptr(),
@@ -155,16 +166,9 @@ pub fn repair(
             coordinates.len(),
             scratch.as_mut_ptr(),
             scratch.len(),
-            &mut raises,
+            carried,
         )
-    };
-    match number {
-        0 => Ok(raises),
-        13 => Err(Refusal::Raise {
-            raises: Some(raises),
-        }),
-        _ => Err(Refusal::plain(number)),
-    }
+    })
 }
 
 /// Writes the coordinates of drawn points. A point is a pair of shares: x of v0 and y of v1, each
@@ -199,8 +203,9 @@ pub fn snap_points(
         )
     };
     match number {
+        0 => Ok(()),
         16 => Err(Refusal::Share { share }),
-        _ => done(number),
+        _ => Err(Refusal::plain(number)),
     }
 }
 
@@ -223,8 +228,9 @@ pub fn snap_points(
 /// # Errors
 /// [`Text`](Refusal::Text); [`Line`](Refusal::Line) for each line in turn, with
 /// [`VertexCount`](Refusal::VertexCount) directly after the first; those of [`check`] from
-/// [`VertexNumber`](Refusal::VertexNumber) on; [`Weights`](Refusal::Weights),
-/// [`Raise`](Refusal::Raise) without its count, [`Listing`](Refusal::Listing).
+/// [`VertexNumber`](Refusal::VertexNumber) on, without the vertex;
+/// [`Weights`](Refusal::Weights), [`Raise`](Refusal::Raise) without its count,
+/// [`Listing`](Refusal::Listing).
 #[inline]
 pub fn job(text: &[u8], listing: &mut [u8]) -> Result<usize, Refusal> {
     // SAFETY: see above.

@@ -22,8 +22,12 @@ pub enum Refusal {
     SideTwice,
     /// 6: a side occurs, and its opposite does not.
     SideAlone,
-    /// 7: the triangles around some vertex are not one closed ring.
-    Ring,
+    /// 7: the triangles around a vertex form several closed rings.
+    Ring {
+        /// The lowest vertex that is refused as this or as [`Stray`](Self::Stray). The calls on a
+        /// mesh tell it, [`job`](crate::job) does not.
+        vertex: Option<u64>,
+    },
     /// 8: the triangles are not connected.
     Pieces,
     /// 9: the absolute values of the weights sum to more than [`LIMIT`](crate::LIMIT).
@@ -58,10 +62,16 @@ pub enum Refusal {
     Listing,
     /// 19: the job text has more than [`JOB_BYTES`](crate::JOB_BYTES) bytes.
     Text,
+    /// 25: a vertex is in no triangle. It is looked for together with [`Ring`](Self::Ring).
+    Stray {
+        /// The lowest vertex that is refused as this or as [`Ring`](Self::Ring). The calls on a
+        /// mesh tell it, [`job`](crate::job) does not.
+        vertex: Option<u64>,
+    },
 }
 
 impl Refusal {
-    /// The refusal of a number that carries nothing, or whose count was not told.
+    /// The refusal of a number that carries nothing, or with which nothing was told.
     ///
     /// # Panics
     /// If the call has no such refusal: the archive then is not one for this crate.
@@ -74,7 +84,7 @@ impl Refusal {
             4 => Refusal::VertexTwice,
             5 => Refusal::SideTwice,
             6 => Refusal::SideAlone,
-            7 => Refusal::Ring,
+            7 => Refusal::Ring { vertex: None },
             8 => Refusal::Pieces,
             9 => Refusal::Weights,
             10 => Refusal::Coordinate,
@@ -85,11 +95,27 @@ impl Refusal {
             15 => Refusal::NotFinite,
             18 => Refusal::Listing,
             19 => Refusal::Text,
+            25 => Refusal::Stray { vertex: None },
             _ => panic!("libpackmap.a is not the one for this crate: it answered {number}"),
         }
     }
 
-    /// Its number, 1 to 19, as the calls in C and the program packmap give it.
+    /// The refusal of a call on a mesh, with the number that it carried if it carries one.
+    ///
+    /// # Panics
+    /// As [`plain`](Self::plain).
+    #[cold]
+    pub(crate) fn carrying(number: u64, carried: u64) -> Refusal {
+        let carried = Some(carried);
+        match number {
+            7 => Refusal::Ring { vertex: carried },
+            13 => Refusal::Raise { raises: carried },
+            25 => Refusal::Stray { vertex: carried },
+            _ => Refusal::plain(number),
+        }
+    }
+
+    /// Its number, 1 to 19 or 25, as the calls in C and the program packmap give it.
     pub const fn number(self) -> u8 {
         match self {
             Refusal::VertexCount => 1,
@@ -98,7 +124,7 @@ impl Refusal {
             Refusal::VertexTwice => 4,
             Refusal::SideTwice => 5,
             Refusal::SideAlone => 6,
-            Refusal::Ring => 7,
+            Refusal::Ring { .. } => 7,
             Refusal::Pieces => 8,
             Refusal::Weights => 9,
             Refusal::Coordinate => 10,
@@ -111,6 +137,7 @@ impl Refusal {
             Refusal::Line { .. } => 17,
             Refusal::Listing => 18,
             Refusal::Text => 19,
+            Refusal::Stray { .. } => 25,
         }
     }
 
@@ -123,7 +150,7 @@ impl Refusal {
             Refusal::VertexTwice => "a triangle has a vertex twice",
             Refusal::SideTwice => "two triangles have the same side in the same direction",
             Refusal::SideAlone => "a side has no triangle on its other side",
-            Refusal::Ring => "the triangles at a vertex are not one ring",
+            Refusal::Ring { .. } => "the triangles at a vertex form several rings",
             Refusal::Pieces => "the mesh has several pieces",
             Refusal::Weights => "the weights are too large",
             Refusal::Coordinate => "a coordinate is too large",
@@ -136,6 +163,7 @@ impl Refusal {
             Refusal::Line { .. } => "a line of the text breaks the layout",
             Refusal::Listing => "the listing buffer is too short",
             Refusal::Text => "the text is too long",
+            Refusal::Stray { .. } => "a vertex is in no triangle",
         }
     }
 }
@@ -145,6 +173,12 @@ impl fmt::Display for Refusal {
     fn fmt(&self, f: &mut fmt::Formatter<'_>) -> fmt::Result {
         f.write_str(self.words())?;
         match *self {
+            Refusal::Ring {
+                vertex: Some(vertex),
+            }
+            | Refusal::Stray {
+                vertex: Some(vertex),
+            } => write!(f, " (vertex: {vertex})"),
             Refusal::Raise {
                 raises: Some(raises),
             } => write!(f, " (raises: {raises})"),

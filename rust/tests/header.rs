@@ -5,14 +5,14 @@ use packmap::Refusal;
 const HEADER: &str = include_str!("../../host/packmap.h");
 
 /// One refusal for each number, in order.
-const ALL: [Refusal; 19] = [
+const ALL: [Refusal; 20] = [
     Refusal::VertexCount,
     Refusal::Length,
     Refusal::VertexNumber,
     Refusal::VertexTwice,
     Refusal::SideTwice,
     Refusal::SideAlone,
-    Refusal::Ring,
+    Refusal::Ring { vertex: None },
     Refusal::Pieces,
     Refusal::Weights,
     Refusal::Coordinate,
@@ -25,6 +25,7 @@ const ALL: [Refusal; 19] = [
     Refusal::Line { line: 2 },
     Refusal::Listing,
     Refusal::Text,
+    Refusal::Stray { vertex: Some(7) },
 ];
 
 /// The part of the header between two marks.
@@ -56,10 +57,7 @@ fn numbers_and_names() {
         (name.to_owned(), refusal.number())
     });
     assert_eq!(numbers, ours);
-    assert_eq!(
-        ours.map(|(_, number)| number),
-        std::array::from_fn(|i| i as u8 + 1)
-    );
+    assert_eq!(ours.map(|(_, number)| number), second::NUMBERS);
 }
 
 #[test]

@@ -1,24 +1,28 @@
 //! Damaged meshes, weights, coordinates, shares and texts. Each comes with the
 //! refusal that it must meet, known from the way it was damaged.
 
-use crate::spheres::{any_weights, scramble, sphere, torus, weights, Rng};
+use crate::spheres::{any_weights, renumbered, scramble, sphere, torus, weights, Rng};
 use crate::text::Job;
-use crate::LIMIT;
+use crate::{Refusal, LIMIT};
 use std::collections::BTreeSet;
 
-/// A mesh of fitting length and the row that refuses it.
+/// A mesh of fitting length and its refusal.
 pub struct BadMesh {
     pub n: usize,
     pub triangles: Vec<u16>,
-    pub number: u8,
+    pub refusal: Refusal,
 }
+
+/// Numbers that a damaged mesh can be asked to meet.
+pub const MESH_NUMBERS: [u8; 7] = [3, 4, 5, 6, 7, 25, 8];
 
 fn sides(triangles: &[u16]) -> BTreeSet<(u16, u16)> {
     let around = |t: &[u16]| [(t[0], t[1]), (t[1], t[2]), (t[2], t[0])];
     triangles.chunks(3).flat_map(around).collect()
 }
 
-/// A mesh that row `number` (3 to 8) refuses, of about `n` vertices.
+/// A mesh that is refused with `number`, one of `MESH_NUMBERS`, of about `n`
+/// vertices.
 pub fn mesh(rng: &mut Rng, number: u8, n: usize) -> BadMesh {
     let n = n.max(8);
     match number {
@@ -26,7 +30,12 @@ pub fn mesh(rng: &mut Rng, number: u8, n: usize) -> BadMesh {
         4 => doubled_corner(rng, n),
         5 => doubled_side(rng, n),
         6 => lacking_side(rng, n),
-        7 => pinched(rng, n),
+        7 | 25 => loop {
+            let bad = ringless(rng, n);
+            if bad.refusal.number == number {
+                break bad;
+            }
+        },
         _ => pieces(rng, n),
     }
 }
@@ -44,7 +53,7 @@ fn beyond(rng: &mut Rng, n: usize) -> BadMesh {
     BadMesh {
         n,
         triangles,
-        number: 3,
+        refusal: Refusal::plain(3),
     }
 }
 
@@ -56,7 +65,7 @@ fn doubled_corner(rng: &mut Rng, n: usize) -> BadMesh {
     BadMesh {
         n,
         triangles,
-        number: 4,
+        refusal: Refusal::plain(4),
     }
 }
 
@@ -76,7 +85,7 @@ fn doubled_side(rng: &mut Rng, n: usize) -> BadMesh {
     BadMesh {
         n,
         triangles,
-        number: 5,
+        refusal: Refusal::plain(5),
     }
 }
 
@@ -97,18 +106,19 @@ fn lacking_side(rng: &mut Rng, n: usize) -> BadMesh {
             return BadMesh {
                 n,
                 triangles,
-                number: 6,
+                refusal: Refusal::plain(6),
             };
         }
     }
 }
 
-/// 7: two spheres that share two vertices and no side; or a torus with two
-/// vertices in no triangle; or a sphere with two far vertices made one, whose
-/// number is then in no triangle. The count of triangles fits each time.
-fn pinched(rng: &mut Rng, n: usize) -> BadMesh {
+/// 7 or 25, whichever the lowest vertex without one ring asks for: two spheres
+/// that share two vertices and no side; or a torus with two vertices in no
+/// triangle; or a sphere with some pairs of far vertices made one each, whose
+/// other numbers are then in no triangle. The count of triangles fits each time.
+fn ringless(rng: &mut Rng, n: usize) -> BadMesh {
     loop {
-        let (n, list) = match rng.below(3) {
+        let (n, list, pinched, stray): (usize, _, Vec<usize>, Vec<usize>) = match rng.below(4) {
             0 => {
                 let small = 4 + rng.below((n - 6).max(1));
                 let large = (n + 2).saturating_sub(small).max(4);
@@ -118,20 +128,20 @@ fn pinched(rng: &mut Rng, n: usize) -> BadMesh {
                     v => v + small as u16 - 2,
                 };
                 list.extend(sphere(rng, large).iter().map(shift));
-                (small + large - 2, list)
+                (small + large - 2, list, vec![0, 1], vec![])
             }
             1 => {
                 let n = n.max(9);
-                (n, torus(rng, n - 2))
+                (n, torus(rng, n - 2), vec![], vec![n - 2, n - 1])
             }
             _ => {
                 let mut list = sphere(rng, n);
-                for v in &mut list {
-                    if *v == 1 {
-                        *v = 0;
-                    }
+                let pairs = 1 + rng.below(2.min(n / 12) + 1);
+                for v in list.iter_mut().filter(|v| usize::from(**v) < 2 * pairs) {
+                    *v -= *v % 2;
                 }
-                (n, list)
+                let odd = (0..pairs).map(|i| 2 * i + 1);
+                (n, list, (0..pairs).map(|i| 2 * i).collect(), odd.collect())
             }
         };
         // Unlucky draws double a side or a corner; draw again.
@@ -139,10 +149,17 @@ fn pinched(rng: &mut Rng, n: usize) -> BadMesh {
             .chunks(3)
             .all(|t| t[0] != t[1] && t[1] != t[2] && t[2] != t[0]);
         if apart && sides(&list).len() == list.len() {
+            let (name, triangles) = renumbered(rng, n, &list);
+            let found = |number, vertices: Vec<usize>| {
+                let named = vertices.into_iter().map(|v| usize::from(name[v]));
+                named.min().map(|v| (v, Refusal::at(number, v)))
+            };
+            let refusals = [found(7, pinched), found(25, stray)];
+            let lowest = refusals.into_iter().flatten().min_by_key(|found| found.0);
             return BadMesh {
                 n,
-                triangles: scramble(rng, n, &list),
-                number: 7,
+                triangles,
+                refusal: lowest.expect("one of both").1,
             };
         }
     }
@@ -166,7 +183,7 @@ fn pieces(rng: &mut Rng, n: usize) -> BadMesh {
     BadMesh {
         n,
         triangles: scramble(rng, n, &list),
-        number: 8,
+        refusal: Refusal::plain(8),
     }
 }
 
@@ -279,7 +296,7 @@ pub struct BadText {
 }
 
 /// Numbers that a damaged text can be asked to meet.
-pub const TEXT_NUMBERS: [u8; 11] = [1, 3, 4, 5, 6, 7, 8, 9, 13, 17, 19];
+pub const TEXT_NUMBERS: [u8; 12] = [1, 3, 4, 5, 6, 7, 25, 8, 9, 13, 17, 19];
 
 /// A random job text, its lines with their LF, and its n.
 pub fn lines(rng: &mut Rng) -> (usize, Vec<Vec<u8>>) {
@@ -310,7 +327,7 @@ pub fn text(rng: &mut Rng, number: u8) -> BadText {
             }
             plain(lines.concat())
         }
-        3..=8 => {
+        3..=8 | 25 => {
             let size = 8 + rng.below(60);
             let bad = mesh(rng, number, size);
             let len = 2 * bad.n - 5;

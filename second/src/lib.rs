@@ -29,6 +29,8 @@ pub const TEXT_VERTICES: std::ops::RangeInclusive<usize> = 3..=256;
 #[derive(Clone, Copy, Debug, PartialEq)]
 pub enum Extra {
     Nothing,
+    /// The vertex of 7 and 25.
+    Vertex(usize),
     /// Raises made before 13.
     Count(usize),
     /// The share that 16 turned away.
@@ -51,7 +53,20 @@ impl Refusal {
             extra: Extra::Nothing,
         }
     }
+
+    /// 7 or 25 at a vertex.
+    pub const fn at(number: u8, vertex: usize) -> Self {
+        Refusal {
+            number,
+            extra: Extra::Vertex(vertex),
+        }
+    }
 }
+
+/// The numbers of the table.
+pub const NUMBERS: [u8; 20] = [
+    1, 2, 3, 4, 5, 6, 7, 8, 9, 10, 11, 12, 13, 14, 15, 16, 17, 18, 19, 25,
+];
 
 /// A call's answer.
 pub type Answer<T> = Result<T, Refusal>;

@@ -86,7 +86,7 @@ impl Mesh {
         &self.leaving[self.first[v] as usize..self.first[v + 1] as usize]
     }
 
-    /// Rows 3 to 8 on triangles of exact length; linear time.
+    /// Rows 3 to 8, and 25 beside 7, on triangles of exact length; linear time.
     pub fn load(&mut self, n: usize, triangles: &[u16]) -> Answer<()> {
         if triangles.iter().copied().max() >= Some(n as u16) {
             return Err(Refusal::plain(3));
@@ -128,16 +128,17 @@ impl Mesh {
         }
     }
 
-    /// Rows 5, 6 and 7. At v each leaving dart is noted at its head; the dart
-    /// that arrives in the same triangle finds its opposite at its tail. One
-    /// ring means that turning from one dart meets all of them.
+    /// Rows 5, 6, and 7 with 25. At v each leaving dart is noted at its head;
+    /// the dart that arrives in the same triangle finds its opposite at its
+    /// tail. One ring means that turning from one dart meets all of them; the
+    /// first vertex without one is kept.
     fn pair(&mut self) -> Answer<()> {
         self.seen.clear();
         self.seen.resize(self.n, 0);
         self.turn.resize(self.corner.len(), 0);
         self.ring.resize(self.corner.len(), 0);
         let (seen, turn, ring) = (&mut self.seen[..], &mut self.turn[..], &mut self.ring[..]);
-        let (mut lacking, mut broken) = (false, false);
+        let (mut lacking, mut broken) = (false, None);
         for (v, ends) in self.first.windows(2).enumerate() {
             let stamp = v as u32 + 1;
             let darts = &self.leaving[ends[0] as usize..ends[1] as usize];
@@ -167,15 +168,16 @@ impl Mesh {
                     break;
                 }
             }
-            broken |= at != 0 || met != darts.len() || met == 0;
+            if darts.is_empty() {
+                broken = broken.or(Some(Refusal::at(25, v)));
+            } else if at != 0 || met != darts.len() {
+                broken = broken.or(Some(Refusal::at(7, v)));
+            }
         }
         if lacking {
             return Err(Refusal::plain(6));
         }
-        if broken {
-            return Err(Refusal::plain(7));
-        }
-        Ok(())
+        broken.map_or(Ok(()), Err)
     }
 
     /// Row 8. With one ring at each vertex, pieces of triangles are pieces of

@@ -1,5 +1,7 @@
-//! The sample meshes and texts of document 01. A mesh is the flat list of its
-//! triples; on n vertices it has 3(2n - 4) numbers.
+//! The sample meshes and texts of document 01, and one for 25. A mesh is the flat
+//! list of its triples; on n vertices it has 3(2n - 4) numbers.
+
+use crate::Refusal;
 
 /// P1: two triangles on the same three vertices, n = 3.
 pub const PAIR: [u16; 6] = [0, 2, 1, 0, 1, 2];
@@ -24,6 +26,12 @@ pub const ROW7: [u16; 36] = [
     0, 1, 3, 1, 2, 3, 2, 0, 3, 1, 0, 4, 2, 1, 4, 0, 2, 4, // the first bipyramid
     5, 6, 3, 6, 7, 3, 7, 5, 3, 6, 5, 4, 7, 6, 4, 5, 7, 4, // the second
 ];
+/// Row 25, a vertex in no triangle: n = 9, the torus (i, i+1, i+3), (i, i+3, i+2)
+/// modulo 7, without 7 and 8.
+pub const ROW25: [u16; 42] = [
+    0, 1, 3, 0, 3, 2, 1, 2, 4, 1, 4, 3, 2, 3, 5, 2, 5, 4, 3, 4, 6, //
+    3, 6, 5, 4, 5, 0, 4, 0, 6, 5, 6, 1, 5, 1, 0, 6, 0, 2, 6, 2, 1,
+];
 /// Row 8, several pieces: n = 11, the tetrahedron and the torus (i, i+1, i+3),
 /// (i, i+3, i+2) modulo 7, plus 4.
 pub const ROW8: [u16; 54] = [
@@ -32,14 +40,15 @@ pub const ROW8: [u16; 54] = [
     7, 10, 9, 8, 9, 4, 8, 4, 10, 9, 10, 5, 9, 5, 4, 10, 4, 6, 10, 6, 5,
 ];
 
-/// The meshes of rows 3 to 8: row, n and mesh.
-pub const ROWS: [(u8, usize, &[u16]); 6] = [
-    (3, 3, &ROW3),
-    (4, 3, &ROW4),
-    (5, 3, &ROW5),
-    (6, 6, &ROW6),
-    (7, 8, &ROW7),
-    (8, 11, &ROW8),
+/// The meshes of rows 3 to 8 and 25: the refusal, n and mesh.
+pub const ROWS: [(Refusal, usize, &[u16]); 7] = [
+    (Refusal::plain(3), 3, &ROW3),
+    (Refusal::plain(4), 3, &ROW4),
+    (Refusal::plain(5), 3, &ROW5),
+    (Refusal::plain(6), 6, &ROW6),
+    (Refusal::at(7, 3), 8, &ROW7),
+    (Refusal::at(25, 7), 9, &ROW25),
+    (Refusal::plain(8), 11, &ROW8),
 ];
 
 /// The example job text: the tetrahedron with the weights 5, 3, -1 of P6.

@@ -163,6 +163,11 @@ impl Surface {
 
 /// Renumbers the vertices, rotates each triple and shuffles the list.
 pub fn scramble(rng: &mut Rng, n: usize, corner: &[u16]) -> Vec<u16> {
+    renumbered(rng, n, corner).1
+}
+
+/// The same, with the new number of each vertex before it.
+pub fn renumbered(rng: &mut Rng, n: usize, corner: &[u16]) -> (Vec<u16>, Vec<u16>) {
     let mut name: Vec<u16> = (0..n as u16).collect();
     rng.shuffle(&mut name);
     let mut list: Vec<[u16; 3]> = corner
@@ -173,7 +178,7 @@ pub fn scramble(rng: &mut Rng, n: usize, corner: &[u16]) -> Vec<u16> {
         })
         .collect();
     rng.shuffle(&mut list);
-    list.concat()
+    (name, list.concat())
 }
 
 /// A double pyramid over a ring of n - 2 vertices.

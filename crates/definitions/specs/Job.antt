@@ -10,7 +10,8 @@ use lib.Dec.{leb, ltb, eqb}
 use lib.ListN.{length, replicate, drop}
 use lib.IntN.{ℤ, pos, negsuc}
 use Rattle.definitions.specs.Lists.{upto, all, total}
-use Rattle.definitions.specs.Answers.{Refusal, numbered, stoppedAfter, shareOutside, lineBroken, number, Answer, done, refused}
+use Rattle.definitions.specs.Answers.{Refusal, numbered, vertexPinched, vertexStray, stoppedAfter, shareOutside, lineBroken, number}
+use Rattle.definitions.specs.Answers.{Answer, done, refused}
 use Rattle.definitions.specs.Mesh.{coordinatesLength, scratchLength}
 use Rattle.definitions.specs.Backward.{coordinate}
 use Rattle.definitions.specs.Refusals.{row1, Repaired, repairCall}
@@ -226,6 +227,8 @@ listing n N raises bs =
 -- What a refusal tells where a text is given: its number alone, and for 17 the line.
 unfoldable pub toldWithText : Refusal → Refusal
 toldWithText (numbered k) = numbered k
+toldWithText (vertexPinched v) = numbered 7
+toldWithText (vertexStray v) = numbered 25
 toldWithText (stoppedAfter count) = numbered 13
 toldWithText (shareOutside share) = numbered 16
 toldWithText (lineBroken line) = lineBroken line
@@ -254,6 +257,8 @@ runJob text =
 -- the line that a refusal names: 0 unless it is 17
 unfoldable pub lineOf : Refusal → ℕ
 lineOf (numbered k) = 0
+lineOf (vertexPinched v) = 0
+lineOf (vertexStray v) = 0
 lineOf (stoppedAfter count) = 0
 lineOf (shareOutside share) = 0
 lineOf (lineBroken line) = line

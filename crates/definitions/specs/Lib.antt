@@ -2,18 +2,19 @@
 -- `CheckedShells` and `RefusalTable` try the definitions on the paper's checked shells and on its table of refusals, the files named `..Cases` on cases of
 -- our own.
 pub mod Lists
+pub mod Answers
 pub mod Mesh
 pub mod Labels
 pub mod Forward
 pub mod Backward
 pub mod Repair
-pub mod Answers
 pub mod DrawnPoints
 pub mod Refusals
 pub mod Job
 pub mod CheckedShells
 pub mod RefusalTable
 pub mod MeshCases
+pub mod VertexCases
 pub mod LabelCases
 pub mod MapCases
 pub mod RepairCases

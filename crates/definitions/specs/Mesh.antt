@@ -1,11 +1,13 @@
 -- Document 01, "Mesh and lent slices": darts and sides, and the mesh's own rows 3 to 8 of the table of refusals. Definitions only.
 -- A mesh is n and the flat list `ts` of its triangles' vertex numbers, as it is lent. A mesh that rows 1 to 8 let through is accepted.
 use Prim.Native.Nat.{ℕ, zero, suc, _+_, _-_, _*_, _/_, _%_}
-use mathlib.Core.Bool.{Bool, false, not, _&&_, _||_}
+use mathlib.Core.Bool.{Bool, false, not, _&&_, _||_, cond}
 use mathlib.Core.List.{List, [], _∷_}
+use mathlib.Core.Option.{Option, none, some}
 use lib.Dec.{leb, eqb}
 use lib.ListN.{length, getD}
-use Rattle.definitions.specs.Lists.{range, upto, all, any, filter, iterate, elem, firstOr}
+use Rattle.definitions.specs.Lists.{range, upto, all, any, filter, iterate, elem, firstOr, first}
+use Rattle.definitions.specs.Answers.{Refusal, vertexPinched, vertexStray}
 
 -- ---- the exact lengths of the slices that are lent for n vertices
 
@@ -123,10 +125,24 @@ module _ (ts : List ℕ) where
   ring [] = false
   ring (d ∷ ds) = let met = rotations (length (d ∷ ds)) d in all (λ e. elem e met) (d ∷ ds)
 
-  -- not one ring at a vertex
-  unfoldable pub row7 : ℕ → Bool
-  unfolding ring outgoing upto any
-  row7 n = any (λ v. not (ring (outgoing v))) (upto n)
+  -- a vertex in no triangle
+  unfoldable pub stray : ℕ → Bool
+  unfolding outgoing
+  stray v = eqb (length (outgoing v)) 0
+
+  -- a vertex whose triangles form several rings
+  unfoldable pub pinched : ℕ → Bool
+  unfolding stray ring outgoing
+  pinched v = not (stray v) && not (ring (outgoing v))
+
+  -- 7 or 25: the lowest vertex that is pinched or stray decides which, and is carried
+  unfoldable pub row7or25 : ℕ → Option Refusal
+  unfolding stray pinched upto first
+  row7or25 n =
+      elim (first (λ v. stray v || pinched v) (upto n)) [
+        | none ↦ none
+        | some v ↦ some (cond (stray v) (vertexStray v) (vertexPinched v))
+      ]
 
   -- the triangles of `reached`, and those that a step across a side joins to them
   unfoldable pub expand : List ℕ → List ℕ

@@ -1,6 +1,6 @@
--- Cases of our own for the shared functions on lists and for "Mesh and lent slices", computed of the definitions: lengths, darts, and the rows 3 to 8
+-- Cases of our own for the shared functions on lists and for "Mesh and lent slices", computed of the definitions: lengths, darts, and the rows 3 to 5
 -- of the table of refusals. What each expects is worked out from the paper by hand; the comments say how. Assumes nothing.
-use Prim.Native.Nat.{ℕ, _-_, _*_}
+use Prim.Native.Nat.{ℕ, _*_}
 use mathlib.Core.Path.{_≡_, refl}
 use mathlib.Core.Option.{none, some}
 use mathlib.Core.List.{List, [], _∷_, map}
@@ -12,7 +12,6 @@ use Rattle.definitions.specs.Mesh.{trianglesLength, labelsLength, weight
 use Rattle.definitions.specs.Mesh.{corners, darts, triangles, inner, tip, opp, rotations, outgoing, component}
 use Rattle.definitions.specs.Refusals.{checkCall}
 use Rattle.definitions.specs.CheckedShells.{Every, all-held, _and_, tetra, lent, zeros, minus}
-use Rattle.definitions.specs.RefusalTable.{torus}
 
 -- ---- functions on lists
 
@@ -67,7 +66,7 @@ Pieces =
     × (component (0 ∷ 2 ∷ 1 ∷ 3 ∷ 2 ∷ 0 ∷ 3 ∷ 1 ∷ 2 ∷ 3 ∷ 0 ∷ 1 ∷ []) ≡ 0 ∷ 1 ∷ 2 ∷ 3 ∷ [])
     × (component (0 ∷ 2 ∷ 1 ∷ 0 ∷ 3 ∷ 2 ∷ 2 ∷ 3 ∷ 1 ∷ 1 ∷ 3 ∷ 0 ∷ []) ≡ 0 ∷ 1 ∷ 2 ∷ 3 ∷ [])
 
--- ---- rows 3 to 8
+-- ---- rows 3 to 5
 
 -- the mesh check of n and its triangles answers k
 abbrev Refuses : ℕ → List ℕ → ℕ → Type 0
@@ -92,35 +91,13 @@ FourBeforeFive = Refuses 4 (0 ∷ 2 ∷ 1 ∷ 0 ∷ 2 ∷ 1 ∷ 0 ∷ 0 ∷ 1 �
 abbrev OneSideTwice : Type 0
 OneSideTwice = Refuses 5 (3 ∷ 2 ∷ 0 ∷ 0 ∷ 2 ∷ 1 ∷ 3 ∷ 1 ∷ 2 ∷ 0 ∷ 1 ∷ 4 ∷ 1 ∷ 3 ∷ 4 ∷ 2 ∷ 4 ∷ 3 ∷ []) 5
 
--- the torus on the vertices 0 to 6 has the 14 triangles of n = 9, and no triangle touches 7 and 8
-abbrev Untouched : Type 0
-Untouched = Refuses 9 (map (λ v. v - 4) torus) 7
-
--- Only v has not one ring. It has three: a, 1, 2, then 3, 4, 5, then 6, 7. The first two are the ends of one sphere that has v at both; the third is
--- a sphere of two triangles. 12 + 2 triangles are those of n = 9.
-abbrev threeRings : ℕ → ℕ → List ℕ
-threeRings v a =
-    v ∷ a ∷ 1 ∷ v ∷ 1 ∷ 2 ∷ v ∷ 2 ∷ a
-    ∷ 1 ∷ a ∷ 3 ∷ 2 ∷ 1 ∷ 4 ∷ a ∷ 2 ∷ 5
-    ∷ 1 ∷ 3 ∷ 4 ∷ 2 ∷ 4 ∷ 5 ∷ a ∷ 5 ∷ 3
-    ∷ v ∷ 4 ∷ 3 ∷ v ∷ 5 ∷ 4 ∷ v ∷ 3 ∷ 5
-    ∷ v ∷ 6 ∷ 7 ∷ v ∷ 7 ∷ 6
-    ∷ []
-
-abbrev FirstVertex : Type 0
-FirstVertex = Refuses 9 (threeRings 0 8) 7
-
-abbrev LastVertex : Type 0
-LastVertex = Refuses 9 (threeRings 8 0) 7
-
 pub mesh-cases :
     Every
-    (ListFunctions ∷ Lengths ∷ Places ∷ Sides ∷ Rotation ∷ Pieces ∷ VertexNumbers ∷ VertexTwice ∷ FourBeforeFive ∷ OneSideTwice ∷ Untouched
-    ∷ FirstVertex ∷ LastVertex ∷ [])
+    (ListFunctions ∷ Lengths ∷ Places ∷ Sides ∷ Rotation ∷ Pieces ∷ VertexNumbers ∷ VertexTwice ∷ FourBeforeFive ∷ OneSideTwice ∷ [])
 unfolding range upto firstOr first minimum init total totalAbs corners darts triangles inner tip opp outgoing rotations component checkCall
 mesh-cases =
     listFunctions and lengths and places and sides and rotation and pieces
-    and vertexNumbers and vertexTwice and fourBeforeFive and oneSideTwice and untouched and firstVertex and lastVertex and all-held
+    and vertexNumbers and vertexTwice and fourBeforeFive and oneSideTwice and all-held
   where
     listFunctions : ListFunctions
     listFunctions = (refl, refl, refl, refl, refl, refl, refl, refl, refl, refl)
@@ -151,12 +128,3 @@ mesh-cases =
 
     oneSideTwice : OneSideTwice
     oneSideTwice = refl
-
-    untouched : Untouched
-    untouched = refl
-
-    firstVertex : FirstVertex
-    firstVertex = refl
-
-    lastVertex : LastVertex
-    lastVertex = refl

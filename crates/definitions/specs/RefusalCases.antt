@@ -10,7 +10,7 @@ use native.Mathlib.Omega.{arith}
 use lib.ListN.{replicate}
 use lib.IntN.{ℤ, pos}
 use lib.Ieee.{Float, ofBits, binary64}
-use Rattle.definitions.specs.Answers.{done, refused, numbered, stoppedAfter, shareOutside, lineBroken, number}
+use Rattle.definitions.specs.Answers.{done, refused, numbered, vertexPinched, vertexStray, stoppedAfter, shareOutside, lineBroken, number}
 use Rattle.definitions.specs.Refusals.{checkCall, labelsCall, forwardCall, backwardCall, repairCall, snapCall}
 use Rattle.definitions.specs.Refusals.{Accepted, AcceptedWeights, AcceptedCoordinates}
 use Rattle.definitions.specs.CheckedShells.{Every, all-held, _and_, pair, tetra, five, stale, lent, zeros, minus, tetraAt}
@@ -203,7 +203,12 @@ Sums =
 
 abbrev Numbers : Type 0
 Numbers =
-    (number (numbered 8) ≡ 8) × (number (stoppedAfter 2) ≡ 13) × (number (shareOutside noNumber) ≡ 16) × (number (lineBroken 2) ≡ 17)
+    (number (numbered 8) ≡ 8)
+    × (number (vertexPinched 2) ≡ 7)
+    × (number (vertexStray 2) ≡ 25)
+    × (number (stoppedAfter 2) ≡ 13)
+    × (number (shareOutside noNumber) ≡ 16)
+    × (number (lineBroken 2) ≡ 17)
 
 -- ---- what is accepted
 
@@ -278,10 +283,10 @@ refusal-cases =
     sums = (refl, refl)
 
     numbers : Numbers
-    numbers = (refl, refl, refl, refl)
+    numbers = (refl, refl, refl, refl, refl, refl)
 
     meshes : Meshes
-    meshes = ((refl, refl, refl), λ a. true≢false (a .0), λ a. omega (arith, a .1), λ a. Option·some-ne-none 5 (a .2))
+    meshes = ((refl, refl, refl), λ a. true≢false (a .0), λ a. omega (arith, a .1), λ a. Option·some-ne-none (numbered 5) (a .2))
 
     weights : Weights
     weights = ((refl, refl), λ a. omega (arith, a .0), λ a. true≢false (a .1))

@@ -1,20 +1,25 @@
--- Document 01's table of refusals, example by example, and the example of "Job text and packmap", computed of the definitions. Assumes nothing.
+-- Document 01's table of refusals with the rows that document 02 adds to it, example by example, and the example of "Job text and packmap", computed of
+-- the definitions. Assumes nothing.
 use Prim.Native.Nat.{ℕ, _+_, _*_, _-_}
 use mathlib.Core.Path.{_≡_, refl}
-use mathlib.Core.List.{List, [], _∷_, _++_}
+use mathlib.Core.List.{List, [], _∷_, _++_, map}
 use lib.ListN.{length, replicate}
 use lib.IntN.{ℤ, pos}
 use lib.Ieee.{Float, ofBits, binary64}
-use Rattle.definitions.specs.Answers.{refused, numbered, stoppedAfter, shareOutside}
+use Rattle.definitions.specs.Answers.{Refusal, refused, numbered, vertexPinched, vertexStray, stoppedAfter, shareOutside}
 use Rattle.definitions.specs.Refusals.{checkCall, forwardCall, backwardCall, repairCall, snapCall}
 use Rattle.definitions.specs.Job.{bytes, hostCall, prints}
 use Rattle.definitions.specs.CheckedShells.{Every, all-held, _and_, tetra, stale, lent, zeros, minus, half, tetraAt}
 
--- ---- the mesh: 1 to 8
+-- ---- the mesh: 1 to 8, and 25 at the place of 7
 
 -- the mesh check of n and its triangles answers k; scratch holds what `left` says
 abbrev Refuses : ℕ → List ℕ → ℕ → List ℤ → Type 0
 Refuses n ts k left = checkCall n ts (lent (24 * n)) ≡ record { answer = refused (numbered k); scratch = left }
+
+-- it answers 7 or 25, with the vertex
+abbrev RefusesVertex : ℕ → List ℕ → Refusal → Type 0
+RefusesVertex n ts why = checkCall n ts (lent (24 * n)) ≡ record { answer = refused why; scratch = zeros (24 * n) }
 
 abbrev Row1 : Type 0
 Row1 = Refuses 2 [] 1 (lent 48)
@@ -43,8 +48,9 @@ Row6 =
 abbrev bipyramid : ℕ → ℕ → ℕ → List ℕ
 bipyramid a b c = a ∷ b ∷ 3 ∷ b ∷ c ∷ 3 ∷ c ∷ a ∷ 3 ∷ b ∷ a ∷ 4 ∷ c ∷ b ∷ 4 ∷ a ∷ c ∷ 4 ∷ []
 
+-- both tips have two rings
 abbrev Row7 : Type 0
-Row7 = Refuses 8 (bipyramid 0 1 2 ++ bipyramid 5 6 7) 7 (zeros 192)
+Row7 = RefusesVertex 8 (bipyramid 0 1 2 ++ bipyramid 5 6 7) (vertexPinched 3)
 
 -- the torus (i, i + 1, i + 3), (i, i + 3, i + 2) modulo 7, plus 4
 abbrev pub torus : List ℕ
@@ -57,6 +63,10 @@ torus =
     ∷ 9 ∷ 10 ∷ 5 ∷ 9 ∷ 5 ∷ 4
     ∷ 10 ∷ 4 ∷ 6 ∷ 10 ∷ 6 ∷ 5
     ∷ []
+
+-- on the vertices 0 to 6 of n = 9: no triangle touches 7 and 8
+abbrev Row25 : Type 0
+Row25 = RefusesVertex 9 (map (λ v. v - 4) torus) (vertexStray 7)
 
 abbrev Row8 : Type 0
 Row8 = Refuses 11 (tetra ++ torus) 8 (zeros 264)
@@ -162,11 +172,11 @@ example-job = (refl, refl)
 
 pub table :
     Every
-    (Row1 ∷ Row2 ∷ Row3 ∷ Row4 ∷ Row5 ∷ Row6 ∷ Row7 ∷ Row8 ∷ Row9 ∷ Row10 ∷ Row11 ∷ Row12 ∷ Row13 ∷ Row14 ∷ Row15 ∷ Row16
-    ∷ Row17 ∷ Row18 ∷ Row19 ∷ [])
+    (Row1 ∷ Row2 ∷ Row3 ∷ Row4 ∷ Row5 ∷ Row6 ∷ Row7 ∷ Row25 ∷ Row8 ∷ Row9 ∷ Row10 ∷ Row11 ∷ Row12 ∷ Row13 ∷ Row14
+    ∷ Row15 ∷ Row16 ∷ Row17 ∷ Row18 ∷ Row19 ∷ [])
 unfolding checkCall forwardCall backwardCall repairCall snapCall hostCall prints ofBits
-table = r1 and r2 and r3 and r4 and r5 and r6 and r7 and r8 and r9 and r10 and r11 and r12 and r13 and r14 and r15 and r16 and r17 and r18 and r19 and
-    all-held
+table = r1 and r2 and r3 and r4 and r5 and r6 and r7 and r25 and r8 and r9 and r10 and r11 and r12 and r13 and r14 and r15 and r16 and r17 and r18
+    and r19 and all-held
   where
     r1 : Row1
     r1 = refl
@@ -188,6 +198,9 @@ table = r1 and r2 and r3 and r4 and r5 and r6 and r7 and r8 and r9 and r10 and r
 
     r7 : Row7
     r7 = refl
+
+    r25 : Row25
+    r25 = refl
 
     r8 : Row8
     r8 = refl

@@ -11,9 +11,9 @@ use lib.IntN.{ℤ, pos, natAbs, _+ℤ_}
 use lib.Signed.{leZ}
 use lib.Ieee.{Float}
 use Rattle.definitions.specs.Lists.{upto, any, totalAbs}
-use Rattle.definitions.specs.Answers.{numbered, stoppedAfter, Answer, done, refused, Row, row, firstRefusal, answerOf}
+use Rattle.definitions.specs.Answers.{Refusal, numbered, stoppedAfter, number, Answer, done, refused, Row, row, firstRefusal, answerOf}
 use Rattle.definitions.specs.Mesh.{trianglesLength, labelsLength, weightsLength, coordinatesLength, scratchLength, pointsLength, row3, row4, row5}
-use Rattle.definitions.specs.Mesh.{row6, row7, row8}
+use Rattle.definitions.specs.Mesh.{row6, row7or25, row8}
 use Rattle.definitions.specs.Labels.{outer, labels}
 use Rattle.definitions.specs.Forward.{forward}
 use Rattle.definitions.specs.Backward.{coordinate, backward}
@@ -40,11 +40,11 @@ unfoldable pub row2 : List Slice → Bool
 unfolding any wrongLength
 row2 slices = any wrongLength slices
 
--- 3 to 8, each over the whole mesh before the next
+-- 3 to 8, each over the whole mesh before the next; 25 stands at the place of 7
 unfoldable pub meshRows : ℕ → List ℕ → List Row
-unfolding row3 row4 row5 row6 row7 row8
+unfolding row3 row4 row5 row6 row7or25 row8
 meshRows n ts =
-    row 3 (λ _. row3 ts n) ∷ row 4 (λ _. row4 ts) ∷ row 5 (λ _. row5 ts) ∷ row 6 (λ _. row6 ts) ∷ row 7 (λ _. row7 ts n)
+    row 3 (λ _. row3 ts n) ∷ row 4 (λ _. row4 ts) ∷ row 5 (λ _. row5 ts) ∷ row 6 (λ _. row6 ts) ∷ (λ _. row7or25 ts n)
     ∷ row 8 (λ _. row8 ts) ∷ []
 
 -- 9: the weights' absolute values sum past L
@@ -83,14 +83,14 @@ row12 n ts bs =
 -- ---- what stays
 
 -- Scratch holds zeros after every answer but 1 and 2.
-unfoldable pub scratchAfter : Option ℕ → List ℤ → List ℤ
+unfoldable pub scratchAfter : Option Refusal → List ℤ → List ℤ
 scratchAfter none scratch = map (λ _. pos 0) scratch
-scratchAfter (some k) scratch = cond (leb k 2) scratch (map (λ _. pos 0) scratch)
+scratchAfter (some why) scratch = cond (leb (number why) 2) scratch (map (λ _. pos 0) scratch)
 
--- ---- the calls. In each, `found` is the number of the first row that finds something.
+-- ---- the calls. In each, `found` is the refusal of the first row that finds something.
 
 -- A call on a mesh asks 1, 2 (of the triangles, the scratch and its own slices), 3 to 8, and then its own rows.
-unfoldable pub callRefusal : ℕ → List ℕ → List ℤ → List Slice → List Row → Option ℕ
+unfoldable pub callRefusal : ℕ → List ℕ → List ℤ → List Slice → List Row → Option Refusal
 unfolding row1 row2 meshRows firstRefusal
 callRefusal n ts scratch slices own =
     let lent = slice (length ts) (trianglesLength n) ∷ slice (length scratch) (scratchLength n) ∷ slices in
@@ -119,7 +119,7 @@ labelsCall n ts ls scratch =
     let found = callRefusal n ts scratch (slice (length ls) (labelsLength n) ∷ []) [] in
     record {
       answer = answerOf tt found;
-      labels = elim found [ none ↦ labels n ts | some k ↦ ls ];
+      labels = elim found [ none ↦ labels n ts | some why ↦ ls ];
       scratch = scratchAfter found scratch;
     }
 
@@ -136,7 +136,7 @@ forwardCall n ts ws bs scratch =
     let found = callRefusal n ts scratch slices (row 9 (λ _. row9 ws) ∷ []) in
     record {
       answer = answerOf tt found;
-      coordinates = elim found [ none ↦ forward n ts (labels n ts) ws | some k ↦ bs ];
+      coordinates = elim found [ none ↦ forward n ts (labels n ts) ws | some why ↦ bs ];
       scratch = scratchAfter found scratch;
     }
 
@@ -155,7 +155,7 @@ backwardCall n ts bs ws scratch =
     let found = callRefusal n ts scratch slices own in
     record {
       answer = answerOf tt found;
-      weights = elim found [ none ↦ new | some k ↦ ws ];
+      weights = elim found [ none ↦ new | some why ↦ ws ];
       scratch = scratchAfter found scratch;
     }
 
@@ -180,9 +180,9 @@ repairCall n ts ws bs scratch =
     let ls = labels n ts in
     let end = repair n ts ls ws in
     record {
-      answer = elim found [ none ↦ repairAnswer (end .ending) (length (end .raises)) | some k ↦ refused (numbered k) ];
-      weights = elim found [ none ↦ end .weights | some k ↦ ws ];
-      coordinates = elim found [ none ↦ forward n ts ls (end .weights) | some k ↦ bs ];
+      answer = elim found [ none ↦ repairAnswer (end .ending) (length (end .raises)) | some why ↦ refused why ];
+      weights = elim found [ none ↦ end .weights | some why ↦ ws ];
+      coordinates = elim found [ none ↦ forward n ts ls (end .weights) | some why ↦ bs ];
       scratch = scratchAfter found scratch;
     }
 
@@ -198,7 +198,7 @@ snapCallWhereZeroIs usual n shares scale bs =
     let lent = slice (length shares) (pointsLength n) ∷ slice (length bs) (coordinatesLength n) ∷ [] in
     let rows = row 1 (λ _. row1 mostVertices n) ∷ row 2 (λ _. row2 lent) ∷ row 14 (λ _. not (scaleAllowed scale)) ∷ [] in
     elim (firstRefusal rows) [
-      | some k ↦ record { answer = refused (numbered k); coordinates = bs }
+      | some why ↦ record { answer = refused why; coordinates = bs }
       | none ↦
           elim (snapAll (effectiveScale usual scale) shares) [
             | refused why ↦ record { answer = refused why; coordinates = bs }

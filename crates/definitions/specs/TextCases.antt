@@ -1,10 +1,12 @@
 -- Cases of our own for "Job text and packmap", computed of the definitions: the layout of lines, numbers, the order of refusals, the listing, and the number
 -- and the buffer that the host service gets. What each expects is worked out from the paper by hand; the comments say how. Assumes nothing.
+use Prim.Native.Nat.{ℕ}
 use Prim.Native.String.{String}
 use mathlib.Core.Path.{_≡_, refl}
-use mathlib.Core.List.{[], _∷_, _++_}
+use mathlib.Core.List.{List, [], _∷_, _++_, flatMap}
 use lib.ListN.{replicate}
-use Rattle.definitions.specs.Answers.{numbered, stoppedAfter, shareOutside, lineBroken}
+use Rattle.definitions.specs.Lists.{upto}
+use Rattle.definitions.specs.Answers.{numbered, vertexPinched, vertexStray, stoppedAfter, shareOutside, lineBroken}
 use Rattle.definitions.specs.Job.{bytes, toldWithText, lineOf, hostCall, prints}
 use Rattle.definitions.specs.CheckedShells.{Every, all-held, _and_, stale, two}
 use Rattle.definitions.specs.RefusalTable.{tetraLines, exampleText, exampleListing}
@@ -140,14 +142,34 @@ Order =
     × PrintsTetra "w\t-2147483648\nw\t0\nw\t0\n" "refused\t9\t0\n"
     × PrintsTetra "w\t1\nw\t-1073741821\nw\t1\n" "refused\t13\t0\n"
 
+-- Spheres of two triangles that share no side, and weights past L. n = 6: (0,1,2), (0,3,4), (1,3,5) and (2,4,5), so each vertex is in two. n = 8: (1,2,3),
+-- (1,4,5), (1,6,7), (2,4,6), (2,5,7) and (3,4,7), so each vertex but 0 is in two or three, and 0 in none. Neither 7 nor 25 tells the vertex here.
+abbrev pinchedText : List ℕ
+pinchedText =
+    bytes "pack-map\t6\nt\t0\t1\t2\nt\t0\t2\t1\nt\t0\t3\t4\nt\t0\t4\t3\nt\t1\t3\t5\nt\t1\t5\t3\nt\t2\t4\t5\nt\t2\t5\t4\n"
+    ++ flatMap (λ _. bytes "w\t2147483647\n") (upto 7)
+
+abbrev strayText : List ℕ
+strayText =
+    bytes "pack-map\t8\nt\t1\t2\t3\nt\t1\t3\t2\nt\t1\t4\t5\nt\t1\t5\t4\nt\t1\t6\t7\nt\t1\t7\t6\n"
+    ++ bytes "t\t2\t4\t6\nt\t2\t6\t4\nt\t2\t5\t7\nt\t2\t7\t5\nt\t3\t4\t7\nt\t3\t7\t4\n"
+    ++ flatMap (λ _. bytes "w\t2147483647\n") (upto 11)
+
+abbrev VertexNotTold : Type 0
+VertexNotTold = (prints pinchedText ≡ bytes "refused\t7\t0\n") × (prints strayText ≡ bytes "refused\t25\t0\n")
+
 -- what a refusal tells where a text is given, and the line that it names
 abbrev Told : Type 0
 Told =
     (toldWithText (numbered 8) ≡ numbered 8)
+    × (toldWithText (vertexPinched 2) ≡ numbered 7)
+    × (toldWithText (vertexStray 2) ≡ numbered 25)
     × (toldWithText (stoppedAfter 2) ≡ numbered 13)
     × (toldWithText (shareOutside two) ≡ numbered 16)
     × (toldWithText (lineBroken 2) ≡ lineBroken 2)
     × (lineOf (numbered 8) ≡ 0)
+    × (lineOf (vertexPinched 2) ≡ 0)
+    × (lineOf (vertexStray 2) ≡ 0)
     × (lineOf (stoppedAfter 2) ≡ 0)
     × (lineOf (shareOutside two) ≡ 0)
     × (lineOf (lineBroken 2) ≡ 2)
@@ -165,8 +187,8 @@ Listings =
 -- ---- the host service
 
 -- The example's listing has 15 bytes in its first line and 10 in each of four: 55. A buffer of 55 bytes holds it, one of 54 is 18.
--- 65,536 × (1 + line) plus the number: 65,554 for 18, 65,545 for 9, 65,549 for 13, 65,537 for 1, and 3 × 65,536 + 17 = 196,625 for 17 in line 2.
--- 18 comes last: the buffers of the refused texts are short too. Each of them stays as lent.
+-- 65,536 × (1 + line) plus the number: 65,554 for 18, 65,545 for 9, 65,549 for 13, 65,537 for 1, 65,543 for 7, 65,561 for 25, and
+-- 3 × 65,536 + 17 = 196,625 for 17 in line 2. 18 comes last: the buffers of the refused texts are short too. Each of them stays as lent.
 abbrev Hosts : Type 0
 Hosts =
     (hostCall exampleText (stale 55) ≡ record { number = 55; listing = exampleListing })
@@ -175,12 +197,15 @@ Hosts =
     × (hostCall (bytes "pack-map\t4\n" ++ tetraLines ++ bytes "w\t2147483647\nw\t0\nw\t0\n") (stale 5) ≡ record { number = 65545; listing = stale 5 })
     × (hostCall (bytes "pack-map\t4\n" ++ tetraLines ++ bytes "w\t1\nw\t-1073741821\nw\t1\n") (stale 5) ≡ record { number = 65549; listing = stale 5 })
     × (hostCall (bytes "pack-map\t2\n") (stale 5) ≡ record { number = 65537; listing = stale 5 })
+    × (hostCall pinchedText (stale 5) ≡ record { number = 65543; listing = stale 5 })
+    × (hostCall strayText (stale 5) ≡ record { number = 65561; listing = stale 5 })
     × (hostCall (bytes "pack-map\t4\n") (stale 5) ≡ record { number = 196625; listing = stale 5 })
 
 pub text-cases :
-    Every (Heads ∷ Vertices ∷ Triangles ∷ Weights ∷ LineNumbers ∷ LongestText ∷ Order ∷ Told ∷ Listings ∷ Hosts ∷ [])
-unfolding prints toldWithText lineOf hostCall
-text-cases = heads and vertices and triangles and weights and line-numbers and longest-text and order and told and listings and hosts and all-held
+    Every (Heads ∷ Vertices ∷ Triangles ∷ Weights ∷ LineNumbers ∷ LongestText ∷ Order ∷ VertexNotTold ∷ Told ∷ Listings ∷ Hosts ∷ [])
+unfolding prints toldWithText lineOf hostCall flatMap upto
+text-cases =
+    heads and vertices and triangles and weights and line-numbers and longest-text and order and vertex-not-told and told and listings and hosts and all-held
   where
     heads : Heads
     heads = (refl, refl, refl, refl, refl, refl, refl, refl, refl, refl, refl, refl, refl, refl)
@@ -203,11 +228,14 @@ text-cases = heads and vertices and triangles and weights and line-numbers and l
     order : Order
     order = (refl, refl, refl, refl, refl)
 
+    vertex-not-told : VertexNotTold
+    vertex-not-told = (refl, refl)
+
     told : Told
-    told = (refl, refl, refl, refl, refl, refl, refl, refl)
+    told = (refl, refl, refl, refl, refl, refl, refl, refl, refl, refl, refl, refl)
 
     listings : Listings
     listings = (refl, refl, refl)
 
     hosts : Hosts
-    hosts = (refl, refl, refl, refl, refl, refl, refl)
+    hosts = (refl, refl, refl, refl, refl, refl, refl, refl, refl)

@@ -1,2 +1,2 @@
--- What a number and a share behind a reference say of an answer.
+-- What a number, and a number or a share behind a reference, say of an answer.
 pub mod Numbers

@@ -2,21 +2,49 @@
 // `packmap_job` of crate `job_call` completes the library.
 ghost use mathlib.Core.Path.{_≡_};
 ghost use Rattle.definitions.specs.Refusals.{checkCall, labelsCall, forwardCall, backwardCall, repairCall, snapCall};
-ghost use Rattle.hashcliff.specs.Numbers.{numberOf, shareOf, repairNumber, countOf};
+ghost use Rattle.definitions.specs.Answers.{number};
+ghost use Rattle.mesh_answer.specs.Answer.{toRefusal};
+ghost use Rattle.hashcliff.specs.Numbers.{numberOf, carriedBy, carriedOf, carriedOfRepair, shareOf};
 use labels_call::LabelsAnswer;
 use maps_call::MapAnswer;
-use mesh_check::MeshAnswer;
+use mesh_answer::MeshAnswer;
+use mesh_answer::Refusal;
 use repair_call::RepairAnswer;
 use snap_call::SnapAnswer;
 
+// The number of a refusal. The vertex of 7 and 25 is left behind `carried`, which else keeps what it held.
+fn tell(why: Refusal, carried: &mut u64) -> u64
+    ensures number { λ r. ⌜ r ≡ number (toRefusal why) ⌝ }
+    ensures carried { λ r. ⌜ now (carried .exit) ≡ carriedBy (now (carried .entry)) (toRefusal why) ⌝ }
+{
+    match why {
+        Refusal::Numbered(number) => number as u64,
+        Refusal::VertexPinched(vertex) => {
+            *carried = vertex as u64;
+            7
+        }
+        Refusal::VertexStray(vertex) => {
+            *carried = vertex as u64;
+            25
+        }
+    }
+}
+
 #[no_mangle]
-pub extern "C" fn packmap_mesh_check(n: usize, triangles: &[u16], scratch: &mut [i64]) -> u64
+pub extern "C" fn packmap_mesh_check(
+    n: usize,
+    triangles: &[u16],
+    scratch: &mut [i64],
+    carried: &mut u64,
+) -> u64
     ensures answer { λ r. ⌜ r ≡ numberOf (checkCall n (now (triangles .entry)) (now (scratch .entry)) .answer) ⌝ }
+    ensures carried { λ r. ⌜ now (carried .exit) ≡
+        carriedOf (now (carried .entry)) (checkCall n (now (triangles .entry)) (now (scratch .entry)) .answer) ⌝ }
     ensures scratch { λ r. ⌜ now (scratch .exit) ≡ checkCall n (now (triangles .entry)) (now (scratch .entry)) .scratch ⌝ }
 {
     match mesh_check::check(n, triangles, scratch) {
         MeshAnswer::Accepted => 0,
-        MeshAnswer::Refused(number) => number as u64,
+        MeshAnswer::Refused(why) => tell(why, carried),
     }
 }
 
@@ -26,14 +54,17 @@ pub extern "C" fn packmap_labels(
     triangles: &[u16],
     labels: &mut [u8],
     scratch: &mut [i64],
+    carried: &mut u64,
 ) -> u64
     ensures answer { λ r. ⌜ r ≡ numberOf (labelsCall n (now (triangles .entry)) (now (labels .entry)) (now (scratch .entry)) .answer) ⌝ }
+    ensures carried { λ r. ⌜ now (carried .exit) ≡
+        carriedOf (now (carried .entry)) (labelsCall n (now (triangles .entry)) (now (labels .entry)) (now (scratch .entry)) .answer) ⌝ }
     ensures labels { λ r. ⌜ now (labels .exit) ≡ labelsCall n (now (triangles .entry)) (now (labels .entry)) (now (scratch .entry)) .labels ⌝ }
     ensures scratch { λ r. ⌜ now (scratch .exit) ≡ labelsCall n (now (triangles .entry)) (now (labels .entry)) (now (scratch .entry)) .scratch ⌝ }
 {
     match labels_call::labels(n, triangles, labels, scratch) {
         LabelsAnswer::Written => 0,
-        LabelsAnswer::Refused(number) => number as u64,
+        LabelsAnswer::Refused(why) => tell(why, carried),
     }
 }
 
@@ -44,9 +75,12 @@ pub extern "C" fn packmap_forward(
     weights: &[i64],
     coordinates: &mut [i64],
     scratch: &mut [i64],
+    carried: &mut u64,
 ) -> u64
     ensures answer { λ r. ⌜ r ≡
         numberOf (forwardCall n (now (triangles .entry)) (now (weights .entry)) (now (coordinates .entry)) (now (scratch .entry)) .answer) ⌝ }
+    ensures carried { λ r. ⌜ now (carried .exit) ≡ carriedOf (now (carried .entry))
+        (forwardCall n (now (triangles .entry)) (now (weights .entry)) (now (coordinates .entry)) (now (scratch .entry)) .answer) ⌝ }
     ensures coordinates { λ r. ⌜ now (coordinates .exit) ≡
         forwardCall n (now (triangles .entry)) (now (weights .entry)) (now (coordinates .entry)) (now (scratch .entry)) .coordinates ⌝ }
     ensures scratch { λ r. ⌜ now (scratch .exit) ≡
@@ -54,7 +88,7 @@ pub extern "C" fn packmap_forward(
 {
     match maps_call::forward(n, triangles, weights, coordinates, scratch) {
         MapAnswer::Written => 0,
-        MapAnswer::Refused(number) => number as u64,
+        MapAnswer::Refused(why) => tell(why, carried),
     }
 }
 
@@ -65,9 +99,12 @@ pub extern "C" fn packmap_backward(
     coordinates: &[i64],
     weights: &mut [i64],
     scratch: &mut [i64],
+    carried: &mut u64,
 ) -> u64
     ensures answer { λ r. ⌜ r ≡
         numberOf (backwardCall n (now (triangles .entry)) (now (coordinates .entry)) (now (weights .entry)) (now (scratch .entry)) .answer) ⌝ }
+    ensures carried { λ r. ⌜ now (carried .exit) ≡ carriedOf (now (carried .entry))
+        (backwardCall n (now (triangles .entry)) (now (coordinates .entry)) (now (weights .entry)) (now (scratch .entry)) .answer) ⌝ }
     ensures weights { λ r. ⌜ now (weights .exit) ≡
         backwardCall n (now (triangles .entry)) (now (coordinates .entry)) (now (weights .entry)) (now (scratch .entry)) .weights ⌝ }
     ensures scratch { λ r. ⌜ now (scratch .exit) ≡
@@ -75,11 +112,11 @@ pub extern "C" fn packmap_backward(
 {
     match maps_call::backward(n, triangles, coordinates, weights, scratch) {
         MapAnswer::Written => 0,
-        MapAnswer::Refused(number) => number as u64,
+        MapAnswer::Refused(why) => tell(why, carried),
     }
 }
 
-// With 0 and 13 the count of raises is left behind `count`, which else keeps what it held.
+// With 0 and 13 the count of raises is left behind `carried`.
 #[no_mangle]
 pub extern "C" fn packmap_repair(
     n: usize,
@@ -87,11 +124,11 @@ pub extern "C" fn packmap_repair(
     weights: &mut [i64],
     coordinates: &mut [i64],
     scratch: &mut [i64],
-    count: &mut u64,
+    carried: &mut u64,
 ) -> u64
     ensures answer { λ r. ⌜ r ≡
-        repairNumber (repairCall n (now (triangles .entry)) (now (weights .entry)) (now (coordinates .entry)) (now (scratch .entry)) .answer) ⌝ }
-    ensures count { λ r. ⌜ now (count .exit) ≡ countOf (now (count .entry))
+        numberOf (repairCall n (now (triangles .entry)) (now (weights .entry)) (now (coordinates .entry)) (now (scratch .entry)) .answer) ⌝ }
+    ensures carried { λ r. ⌜ now (carried .exit) ≡ carriedOfRepair (now (carried .entry))
         (repairCall n (now (triangles .entry)) (now (weights .entry)) (now (coordinates .entry)) (now (scratch .entry)) .answer) ⌝ }
     ensures weights { λ r. ⌜ now (weights .exit) ≡
         repairCall n (now (triangles .entry)) (now (weights .entry)) (now (coordinates .entry)) (now (scratch .entry)) .weights ⌝ }
@@ -102,12 +139,12 @@ pub extern "C" fn packmap_repair(
 {
     match repair_call::repair(n, triangles, weights, coordinates, scratch) {
         RepairAnswer::Repaired(raises) => {
-            *count = raises as u64;
+            *carried = raises as u64;
             0
         }
-        RepairAnswer::Refused(number) => number as u64,
+        RepairAnswer::Refused(why) => tell(why, carried),
         RepairAnswer::Stopped(raises) => {
-            *count = raises as u64;
+            *carried = raises as u64;
             13
         }
     }

@@ -14,7 +14,7 @@ use Rattle.definitions.specs.Lists.{total, totalAbs}
 use Rattle.definitions.specs.Mesh.{coordinatesLength, scratchLength, org}
 use Rattle.definitions.specs.Labels.{outer}
 use Rattle.definitions.specs.Backward.{coordinate}
-use Rattle.definitions.specs.Answers.{Answer, done, refused, numbered, stoppedAfter as stopped, lineBroken, Refusal}
+use Rattle.definitions.specs.Answers.{Answer, done, refused, numbered, stoppedAfter as stopped, lineBroken, Refusal, number}
 use Rattle.definitions.specs.Refusals.{Repaired, repairCall, row9}
 use Rattle.definitions.specs.Job.{Job, readJob, repairJob, runJob, hostCall, listing, toldWithText, refusalNumber}
 use Rattle.laws.specs.Sums.{total-abs}
@@ -28,6 +28,9 @@ use Rattle.text_write_listing.specs.declared.Listed.the-variants.{Bytes, Short}
 use Rattle.text_read_job.specs.declared.Reading.{Reading}
 use Rattle.text_read_job.specs.declared.Reading.the-variants.{Job as Read, TooLong, Size, Line}
 use Rattle.text_read_job.specs.Answer.{answerOf, Sized}
+use Rattle.mesh_answer.specs.Answer.{toRefusal}
+use Rattle.mesh_answer.specs.declared.Refusal.{Refusal as MeshRefusal}
+use Rattle.mesh_answer.specs.declared.Refusal.the-variants.{Numbered, VertexPinched, VertexStray}
 use Rattle.repair_call.specs.declared.RepairAnswer.{RepairAnswer}
 use Rattle.repair_call.specs.declared.RepairAnswer.the-variants.{Repaired as Repairs, Refused as Refuses, Stopped}
 use Rattle.repair_call.specs.Answer.{repairToAnswer}
@@ -171,6 +174,13 @@ module _ (n raises : ℕ) (ts : List ℕ) (bs : List ℤ) (N : ℤ) (v : ℕ) (v
 
 -- ---- a job that is read: its repair, over buffers of its own
 
+-- a text tells the number of a refusal, and no vertex
+told-alone : (why : MeshRefusal) → toldWithText (toRefusal why) ≡ numbered (number (toRefusal why))
+unfolding toldWithText
+told-alone (Numbered k) = refl
+told-alone (VertexPinched v) = refl
+told-alone (VertexStray v) = refl
+
 take-replicate : {A : Type 0} (k m : ℕ) (a : A) → k ≤ m → take k (replicate m a) ≡ replicate k a
 take-replicate zero m a h = refl
 take-replicate (suc k) zero a h = absurd (omega arith)
@@ -223,10 +233,11 @@ module _ (n : ℕ) (ts : List ℕ) (ws : List ℤ) where
         let p = ran-done raises (answer-is (done raises) (ap repairToAnswer e)) in
         rw (p, ← q) h
 
-    pub finish-refused : (k : ℕ) → r ≡ Refuses k → (before : List ℕ) → Ends (ran n ts ws) before before (Refused k)
-    unfolding toldWithText
-    finish-refused k e before = rw (ran-refused (numbered k) (answer-is (refused (numbered k)) (ap repairToAnswer e)))
-        (record { answer = refl; buffer = refl; line = tt })
+    pub finish-refused : (why : MeshRefusal) → r ≡ Refuses why → (k : ℕ) → k ≡ number (toRefusal why) →
+        (before : List ℕ) → Ends (ran n ts ws) before before (Refused k)
+    finish-refused why e k q before =
+        let is = ran-refused (toRefusal why) (answer-is (refused (toRefusal why)) (ap repairToAnswer e)) in
+        rw (is ∙ ap refused (told-alone why), q) (record { answer = refl; buffer = refl; line = tt })
 
     pub finish-stopped : (count : ℕ) → r ≡ Stopped count → (before : List ℕ) → Ends (ran n ts ws) before before (Refused 13)
     unfolding toldWithText

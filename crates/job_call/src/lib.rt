@@ -1,5 +1,6 @@
 // A job from its text to its listing: the text is read, the weights are repaired, and the listing is written. The call for the host service is the last one.
 use lent_slices::SCRATCH_WORDS;
+use mesh_answer::number_of;
 use repair_call::RepairAnswer;
 use text_read_job::MOST_VERTICES;
 use text_read_job::Reading;
@@ -64,7 +65,7 @@ fn finish(n: usize, triangles: &[u16], weights: &mut [i64], listing: &mut [u8]) 
         &mut scratch[..SCRATCH_WORDS * n],
     ) {
         RepairAnswer::Repaired(raises) => list(n, triangles, raises, places, listing),
-        RepairAnswer::Refused(number) => JobAnswer::Refused(number),
+        RepairAnswer::Refused(why) => JobAnswer::Refused(number_of(why)),
         RepairAnswer::Stopped(_) => JobAnswer::Refused(13),
     }
 }

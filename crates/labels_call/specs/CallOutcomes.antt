@@ -6,12 +6,12 @@ use mathlib.Core.Option.{Option, none, some}
 use lib.ListN.{length}
 use lib.IntN.{ℤ, pos}
 use Rattle.definitions.specs.Mesh.{trianglesLength, scratchLength, labelsLength}
-use Rattle.definitions.specs.Answers.{Answer, done, refused, numbered, firstRefusal, answerOf}
+use Rattle.definitions.specs.Answers.{Answer, done, refused, numbered, Refusal, firstRefusal, answerOf}
 use Rattle.definitions.specs.Labels.{labels}
 use Rattle.definitions.specs.Refusals.{Slice, slice, meshRows, scratchAfter, callRefusal, labelsCall, Accepted as AcceptedMesh}
-use Rattle.theory_sphere.specs.FirstRefusal.{row2-cons, lent, callRefusal-mesh, callRefusal-own}
+use Rattle.theory_sphere.specs.FirstRefusal.{only-none, row2-cons, lent, callRefusal-mesh, callRefusal-own}
 use Rattle.lent_slices.specs.Lengths.{firstRows}
-use Rattle.lent_slices.specs.Calls.{Fits, early-found, zeros, cleared}
+use Rattle.lent_slices.specs.Calls.{Fits, early-found, Late, zeros, cleared}
 
 -- the slices that the call has besides the triangles and the scratch
 abbrev own : ℕ → List ℕ → List Slice
@@ -23,8 +23,8 @@ LabelsFit n ts ls scratch = Fits n ts scratch (own n ls)
 
 module _ (n : ℕ) (ts ls : List ℕ) (scratch : List ℤ) where
   -- the labels that go with what is found
-  abbrev kept : Option ℕ → List ℕ
-  kept found = elim found [ none ↦ labels n ts | some k ↦ ls ]
+  abbrev kept : Option Refusal → List ℕ
+  kept found = elim found [ none ↦ labels n ts | some why ↦ ls ]
 
   -- the answer and the labels are the definition's; and the scratch too
   abbrev pub Runs : Answer (Unit {0}) → List ℕ → Type 0
@@ -33,19 +33,19 @@ module _ (n : ℕ) (ts ls : List ℕ) (scratch : List ℤ) where
   abbrev pub Gives : Answer (Unit {0}) → List ℕ → List ℤ → Type 0
   Gives a l s = (a ≡ labelsCall n ts ls scratch .answer) × ((l ≡ labelsCall n ts ls scratch .labels) × (s ≡ labelsCall n ts ls scratch .scratch))
 
-  runs : (found : Option ℕ) → callRefusal n ts scratch (own n ls) [] ≡ found → Runs (answerOf tt found) (kept found)
+  runs : (found : Option Refusal) → callRefusal n ts scratch (own n ls) [] ≡ found → Runs (answerOf tt found) (kept found)
   unfolding labelsCall
   runs found e = (ap (answerOf tt) (sym e), ap kept (sym e))
 
-  given : (found : Option ℕ) → callRefusal n ts scratch (own n ls) [] ≡ found → Gives (answerOf tt found) (kept found) (scratchAfter found scratch)
+  given : (found : Option Refusal) → callRefusal n ts scratch (own n ls) [] ≡ found → Gives (answerOf tt found) (kept found) (scratchAfter found scratch)
   unfolding labelsCall
-  given found e = (ap (answerOf tt) (sym e), (ap kept (sym e), ap (λ (f : Option ℕ). scratchAfter f scratch) (sym e)))
+  given found e = (ap (answerOf tt) (sym e), (ap kept (sym e), ap (λ (f : Option Refusal). scratchAfter f scratch) (sym e)))
 
   -- 1 and 2
   pub gives-early : (r : ℕ) → r ≡ firstRows n (lent n ts scratch (own n ls)) → (r ≡ 0 → ⊥) → Gives (refused (numbered r)) ls scratch
   gives-early r e f =
       let g = early-found n ts scratch (own n ls) r e [] f in
-      let h = given (some r) (g .0) in
+      let h = given (some (numbered r)) (g .0) in
       (h .0, (h .1 .0, sym (g .1) ∙ h .1 .1))
 
   module _ (F : LabelsFit n ts ls scratch) where
@@ -56,8 +56,8 @@ module _ (n : ℕ) (ts ls : List ℕ) (scratch : List ℤ) where
         row2-cons (length ls) (labelsLength n) [] .0 (b .1) .0
 
     -- 3 to 8, or nothing
-    pub runs-refused : (k j : ℕ) → firstRefusal (meshRows n ts) ≡ some k → j ≡ k → Runs (refused (numbered j)) ls
-    runs-refused k j e f = rw f (runs (some k) (callRefusal-mesh n ts scratch (own n ls) [] k (F .size) (F .lengths) e))
+    pub runs-refused : (why told : Refusal) → firstRefusal (meshRows n ts) ≡ some why → told ≡ why → Runs (refused told) ls
+    runs-refused why told e f = rw f (runs (some why) (callRefusal-mesh n ts scratch (own n ls) [] why (F .size) (F .lengths) e))
 
     pub runs-written : AcceptedMesh n ts → (out : List ℕ) → out ≡ labels n ts → Runs (done tt) out
     unfolding firstRefusal
@@ -67,4 +67,4 @@ module _ (n : ℕ) (ts ls : List ℕ) (scratch : List ℤ) where
     pub gives-run : (a : Answer (Unit {0})) (l : List ℕ) → Runs a l → (s z : List ℤ) → length s ≡ length scratch → z ≡ map (λ _. pos 0) s →
         Gives a l z
     unfolding labelsCall
-    gives-run a l R s z e f = (R .0, (R .1, f ∙ cleared scratch s e ∙ zeros n ts scratch (own n ls) [] tt F))
+    gives-run a l R s z e f = (R .0, (R .1, f ∙ cleared scratch s e ∙ zeros n ts scratch (own n ls) [] (only-none Late) F))

@@ -19,17 +19,18 @@ use Rattle.theory_sphere.specs.FirstRefusal.{refusal-clean}
 use Rattle.theory_peeling.specs.Labelled.{labels-exact, labels-below}
 use Rattle.scratch_tables.specs.Tables.{Tables, tablesOf, dartIn}
 use Rattle.labels_tables.specs.LabelledTables.{Peeled, labelIn, labelIn-is}
-use Rattle.mesh_check.specs.Answer.{rowOf}
+use Rattle.mesh_answer.specs.Answer.{toRefusal, refusalIn}
+use Rattle.mesh_answer.specs.declared.Refusal.{Refusal}
 use Rattle.mesh_check.specs.Stages.{Lent, Examined, Accepting, accepting-mesh, accepting-sphere}
-use Rattle.mesh_check.specs.declared.MeshAnswer.{MeshAnswer}
-use Rattle.mesh_check.specs.declared.MeshAnswer.the-variants.{Accepted, Refused}
+use Rattle.mesh_answer.specs.declared.MeshAnswer.{MeshAnswer}
+use Rattle.mesh_answer.specs.declared.MeshAnswer.the-variants.{Accepted, Refused}
 use Rattle.labels_model.specs.Model.{Room, HasVertices, peelTables}
 use Rattle.labels_model.specs.Result.{peeled-tables}
 
 -- what the answer says: the mesh is accepted, and scratch holds its labels and the trace of its peeling; or a row has found something
 abbrev pub Labelling : ℕ → List ℕ → List ℤ → MeshAnswer → Type 0
 Labelling n ts s Accepted = AcceptedMesh n ts × Peeled n ts (labels n ts) s
-Labelling n ts s (Refused k) = firstRefusal (meshRows n ts) ≡ some k
+Labelling n ts s (Refused why) = firstRefusal (meshRows n ts) ≡ some (toRefusal why)
 
 -- ---- room for the stage
 
@@ -73,8 +74,9 @@ module _ {n : ℕ} {ts : List ℕ} {words : ℕ} (L : Lent n ts words) where
 
 -- ---- an answer taken apart
 
-pub labelling-refused : (n : ℕ) (ts : List ℕ) (s : List ℤ) (r : MeshAnswer) (k : ℕ) → r ≡ Refused k → Examined n ts s r → Labelling n ts s r
-labelling-refused n ts s r k e S = let p : Examined n ts s (Refused k) = rw e at S in rw e p
+pub labelling-refused : (n : ℕ) (ts : List ℕ) (s : List ℤ) (r : MeshAnswer) (why : Refusal) → r ≡ Refused why → Examined n ts s r →
+    Labelling n ts s r
+labelling-refused n ts s r why e S = let p : Examined n ts s (Refused why) = rw e at S in rw e p
 
 -- what the stage asks, and what it leaves, where the mesh check has accepted
 module _ (n : ℕ) (ts : List ℕ) (words : ℕ) (L : Lent n ts words) (s : List ℤ) (a : MeshAnswer) (e : a ≡ Accepted) (S : Examined n ts s a) where
@@ -87,9 +89,9 @@ module _ (n : ℕ) (ts : List ℕ) (words : ℕ) (L : Lent n ts words) (s : List
   pub peeled : (s′ : List ℤ) → tablesOf s′ ≡ peelTables ts n (tablesOf s) → AcceptedMesh n ts × Peeled n ts (labels n ts) s′
   peeled = labelling L accepting
 
-pub labelled-refused : (n : ℕ) (ts : List ℕ) (s : List ℤ) (a : MeshAnswer) (k : ℕ) → a ≡ Refused k → Labelling n ts s a →
-    firstRefusal (meshRows n ts) ≡ some (rowOf a)
-labelled-refused n ts s a k e S = rw e (rw e at S)
+pub labelled-refused : (n : ℕ) (ts : List ℕ) (s : List ℤ) (a : MeshAnswer) (why : Refusal) → a ≡ Refused why → Labelling n ts s a →
+    firstRefusal (meshRows n ts) ≡ some (toRefusal (refusalIn a))
+labelled-refused n ts s a why e S = rw e (rw e at S)
 
 pub labelled-accepted : (n : ℕ) (ts : List ℕ) (s : List ℤ) (a : MeshAnswer) → a ≡ Accepted → Labelling n ts s a → AcceptedMesh n ts
     × Peeled n ts (labels n ts) s

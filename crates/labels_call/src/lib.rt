@@ -2,9 +2,10 @@
 // smallest vertex that can leave, which passes over whole groups and blocks of vertices. Of scratch it uses the ten words a vertex that the mesh
 // check uses.
 use lent_slices::labels_rows;
-use mesh_check::MeshAnswer;
+use mesh_answer::MeshAnswer;
+use mesh_answer::Refusal;
+use mesh_answer::refusal_of;
 use mesh_check::examine;
-use mesh_check::refusal_of;
 use scratch_tables::clear;
 ghost use mathlib.Core.Path.{_≡_};
 ghost use Prim.Native.Nat.{ℕ, _+_, _<_};
@@ -17,10 +18,10 @@ ghost use Rattle.labels_call.specs.Answer.{labelsToAnswer};
 ghost use Rattle.labels_call.specs.CallOutcomes.{LabelsFit};
 ghost use Rattle.labels_call.specs.Labelling.{Labelling};
 
-// the labels are written; or refused, with the number of the row
+// the labels are written, or the call is refused
 pub enum LabelsAnswer {
     Written,
-    Refused(u32),
+    Refused(Refusal),
 }
 
 // Rows 3 to 8 and the labels stage, for every call that needs labels. Where the mesh is accepted scratch holds the labels and the trace of the peeling.
@@ -71,7 +72,7 @@ pub fn labels(n: usize, triangles: &[u16], labels: &mut [u8], scratch: &mut [i64
 {
     let number = labels_rows(n, triangles.len(), labels.len(), scratch.len());
     if number != 0 {
-        return LabelsAnswer::Refused(number);
+        return LabelsAnswer::Refused(Refusal::Numbered(number));
     }
     let answer = run_labels(n, triangles, labels, scratch);
     clear(scratch);

@@ -1,8 +1,8 @@
 -- The laws of the words on lists that the definitions use: what their tests say of members, and what members their lists have. Assumes nothing.
 -- Membership is mathlib's `List·Memᴰ`, here x ∈ xs. A name says what a law starts from: `any-true` opens a test, `true-any` closes one.
 use Prim.Native.Nat.{ℕ, zero, suc, _+_, _-_, _*_, _≤_, _<_, min}
-use mathlib.Core.Path.{_≡_, refl, sym, ap, ap₂, _∙_, subst}
-use mathlib.Core.Logic.{_⊎_, inl, inr}
+use mathlib.Core.Path.{_≡_, refl, sym, ap, _∙_, subst}
+use mathlib.Core.Logic.{_⊎_, _↔_, inl, inr}
 use mathlib.Core.Bool.{Bool, true, false, _&&_, _||_}
 use mathlib.Core.List.{List, [], _∷_, _++_, flatMap, List·Memᴰ, List·Memᴰ·head, List·Memᴰ·tail, List·Memᴰ·not-nil, List·Memᴰ·cases-cons}
 use mathlib.Core.List.{Memᴰ·cast, Memᴰ·append-right}
@@ -181,16 +181,6 @@ module _ {A : Type 0} (p q : A → Bool) where
       let rest : filter p xs ≡ filter q xs = filter-same xs (λ y m. h y (List·Memᴰ·tail m)) in
       rw (e, rest)
 
-  pub any-same : (xs : List A) → ((x : A) → x ∈ xs → p x ≡ q x) → any p xs ≡ any q xs
-  unfolding any
-  any-same [] h = refl
-  any-same (x ∷ xs) h = ap₂ _||_ (h x (List·Memᴰ·head refl)) (any-same xs (λ y m. h y (List·Memᴰ·tail m)))
-
-  pub all-same : (xs : List A) → ((x : A) → x ∈ xs → p x ≡ q x) → all p xs ≡ all q xs
-  unfolding all
-  all-same [] h = refl
-  all-same (x ∷ xs) h = ap₂ _&&_ (h x (List·Memᴰ·head refl)) (all-same xs (λ y m. h y (List·Memᴰ·tail m)))
-
 -- ---- iterate
 
 module _ {A : Type 0} (f : A → A) where
@@ -293,6 +283,9 @@ decIn x xs = elim (tested (elem x xs)) [ inl e ↦ yes (elem-true x xs e) | inr 
 
 -- ---- seek, first: the first that passes
 
+differ : {X : Type 0} {x : ℕ} → some x ≡ none → X
+differ {x} e = let z : _≡_ {A = ℕ} 0 1 = cc in absurd (omega arith)
+
 -- x is the first member that passes
 pub record First (p : ℕ → Bool) (xs : List ℕ) (x : ℕ) : Type 0 where
   pub ahead : List ℕ
@@ -381,6 +374,44 @@ module _ (p : ℕ → Bool) where
       firstOr p d xs ≡ x
   firstOr-only d {xs} x m q only = let r = firstOr-in d xs (true-any p m q) in only (firstOr p d xs) (r .0) (r .1)
 
+-- the first number from a on, of k numbers
+module _ (p : ℕ → Bool) where
+  pub first-at : (a k x : ℕ) → a ≤ x → x < a + k → ((y : ℕ) → a ≤ y → y < x → p y ≡ false) → p x ≡ true →
+      first p (range a k) ≡ some x
+  unfolding first range
+  first-at a zero x h l b e = absurd (omega arith)
+  first-at a (suc k) x h l b e =
+      elim (ℕ-discrete a x) [
+        | yes q ↦ rw (ap p q ∙ e) (ap some q)
+        | no q ↦ rw (b a (omega arith) (omega arith)) (first-at (suc a) k x (omega arith) (omega arith) (λ y m n. b y (omega arith) n) e)
+      ]
+
+  pub first-not : (a k : ℕ) → ((x : ℕ) → a ≤ x → x < a + k → p x ≡ false) → first p (range a k) ≡ none
+  first-not a k b = none-first p (range a k) (false-any p (range a k) (λ x m. let r = range-in a k m in b x (r .0) (r .1)))
+
+  first-least : (a k x : ℕ) → first p (range a k) ≡ some x → (y : ℕ) → a ≤ y → y < x → p y ≡ false
+  unfolding first range
+  first-least a zero x e y h l = differ (sym e)
+  first-least a (suc k) x e y h l =
+      elim (tested (p a)) [
+        | inl q ↦ let s : some a ≡ some x = rw q at e in let i : a ≡ x = cc in absurd (omega arith)
+        | inr q ↦
+            elim (ℕ-discrete a y) [
+              | yes i ↦ ap p (sym i) ∙ q
+              | no i ↦ first-least (suc a) k x (rw q at e) y (omega arith) l
+            ]
+      ]
+
+  -- the first of those below n is the lowest that passes
+  pub first-upto : (n x : ℕ) → (first p (upto n) ≡ some x) ↔ ((x < n) × (p x ≡ true) × ((y : ℕ) → y < x → p y ≡ false))
+  unfolding upto
+  first-upto n x = (
+    λ e.
+        let f = first-some p (range 0 n) x e in
+        (upto-in n (First-in p f), f .passes, λ y l. first-least 0 n x e y (omega arith) l),
+    λ r. first-at 0 n x (omega arith) (omega (arith, r .0)) (λ y h l. r .2 y l) (r .1),
+  )
+
 -- the same list of places, the same first
 pub firstOr-same : (p q : ℕ → Bool) (d : ℕ) (xs : List ℕ) → ((x : ℕ) → x ∈ xs → p x ≡ q x) → firstOr p d xs ≡ firstOr q d xs
 unfolding firstOr
@@ -391,9 +422,6 @@ firstOr-same p q d (x ∷ xs) h =
     rw (e, rest)
 
 -- ---- least
-
-differ : {X : Type 0} {x : ℕ} → some x ≡ none → X
-differ {x} e = let z : _≡_ {A = ℕ} 0 1 = cc in absurd (omega arith)
 
 pub minimum-none : (xs : List ℕ) → minimum xs ≡ none → xs ≡ []
 unfolding minimum

@@ -8,14 +8,14 @@ use native.Mathlib.Omega.{arith}
 use lib.ListN.{length}
 use lib.IntN.{ℤ, pos}
 use Rattle.definitions.specs.Mesh.{weightsLength, coordinatesLength}
-use Rattle.definitions.specs.Answers.{Answer, done, refused, numbered, Row, row, firstRefusal, answerOf}
+use Rattle.definitions.specs.Answers.{Answer, done, refused, numbered, Refusal, Row, row, firstRefusal, answerOf}
 use Rattle.definitions.specs.Labels.{labels}
 use Rattle.definitions.specs.Forward.{forward}
 use Rattle.definitions.specs.Backward.{backward}
 use Rattle.definitions.specs.Refusals.{row9, row10, row11, row12, Slice, slice, meshRows, scratchAfter, callRefusal, forwardCall, backwardCall}
-use Rattle.theory_sphere.specs.FirstRefusal.{callRefusal-mesh, callRefusal-own}
+use Rattle.theory_sphere.specs.FirstRefusal.{OnlyWith, only-none, only-row, callRefusal-mesh, callRefusal-own}
 use Rattle.lent_slices.specs.Lengths.{firstRows}
-use Rattle.lent_slices.specs.Calls.{Fits, early-found, zeros, cleared}
+use Rattle.lent_slices.specs.Calls.{Fits, early-found, Late, zeros, cleared}
 use Rattle.lent_slices.specs.MapLengths.{Lengths, forwardSlices, back-rows, forward-fits, backward-fits}
 use Rattle.mesh_check.specs.Stages.{Lent}
 
@@ -35,14 +35,14 @@ module _ (n : ℕ) (ts : List ℕ) (ws bs scratch : List ℤ) where
   abbrev ownF : List Row
   ownF = row 9 (λ _. row9 ws) ∷ []
 
-  abbrev askedF : Option ℕ
+  abbrev askedF : Option Refusal
   askedF = callRefusal n ts scratch slicesF ownF
 
   -- what is written then
-  abbrev keptF : Option ℕ → List ℤ
-  keptF found = elim found [ none ↦ forward n ts (labels n ts) ws | some k ↦ bs ]
+  abbrev keptF : Option Refusal → List ℤ
+  keptF found = elim found [ none ↦ forward n ts (labels n ts) ws | some why ↦ bs ]
 
-  givenF : (found : Option ℕ) → askedF ≡ found → Forwards (answerOf tt found) (keptF found)
+  givenF : (found : Option Refusal) → askedF ≡ found → Forwards (answerOf tt found) (keptF found)
   unfolding forwardCall
   givenF found e = (ap (answerOf tt) (sym e), ap keptF (sym e))
 
@@ -56,21 +56,21 @@ module _ (n : ℕ) (ts : List ℕ) (ws bs scratch : List ℤ) where
       × ((bs ≡ forwardCall n ts ws bs scratch .coordinates) × (scratch ≡ forwardCall n ts ws bs scratch .scratch))
   forward-early r e f =
       let g = early-found n ts scratch slicesF r e ownF f in
-      let q = givenF (some r) (g .0) in
-      (q .0, (q .1, sym (g .1) ∙ ap (λ (o : Option ℕ). scratchAfter o scratch) (sym (g .0)) ∙ sym scratchF))
+      let q = givenF (some (numbered r)) (g .0) in
+      (q .0, (q .1, sym (g .1) ∙ ap (λ (o : Option Refusal). scratchAfter o scratch) (sym (g .0)) ∙ sym scratchF))
 
   module _ (L : Lengths n (length ts) (length scratch) (length ws) (length bs)) where
     fitF : Fits n ts scratch slicesF
     fitF = forward-fits n ts scratch (length ws) (length bs) L
 
     -- 3 to 8
-    pub forward-mesh : (k j : ℕ) → firstRefusal (meshRows n ts) ≡ some k → j ≡ k → Forwards (refused (numbered j)) bs
-    forward-mesh k j e f = rw f (givenF (some k) (callRefusal-mesh n ts scratch slicesF ownF k (fitF .size) (fitF .lengths) e))
+    pub forward-mesh : (why told : Refusal) → firstRefusal (meshRows n ts) ≡ some why → told ≡ why → Forwards (refused told) bs
+    forward-mesh why told e f = rw f (givenF (some why) (callRefusal-mesh n ts scratch slicesF ownF why (fitF .size) (fitF .lengths) e))
 
     -- 9
     pub forward-9 : firstRefusal (meshRows n ts) ≡ none → row9 ws ≡ true → Forwards (refused (numbered 9)) bs
     unfolding firstRefusal
-    forward-9 e f = givenF (some 9) (callRefusal-own n ts scratch slicesF ownF (fitF .size) (fitF .lengths) e ∙ rw f)
+    forward-9 e f = givenF (some (numbered 9)) (callRefusal-own n ts scratch slicesF ownF (fitF .size) (fitF .lengths) e ∙ rw f)
 
     -- nothing is found
     pub forward-done : firstRefusal (meshRows n ts) ≡ none → row9 ws ≡ false → (out : List ℤ) → out ≡ forward n ts (labels n ts) ws →
@@ -81,7 +81,9 @@ module _ (n : ℕ) (ts : List ℕ) (ws bs scratch : List ℤ) where
         (q .0, g ∙ q .1)
 
     pub forward-scratch : (s z : List ℤ) → length s ≡ length scratch → z ≡ map (λ _. pos 0) s → z ≡ forwardCall n ts ws bs scratch .scratch
-    forward-scratch s z e f = f ∙ cleared scratch s e ∙ zeros n ts scratch slicesF ownF (omega arith, tt) fitF ∙ sym scratchF
+    forward-scratch s z e f =
+        let own = only-row Late 9 (λ _. row9 ws) [] (omega arith) (only-none Late) in
+        f ∙ cleared scratch s e ∙ zeros n ts scratch slicesF ownF own fitF ∙ sym scratchF
 
 -- ---- backward
 
@@ -95,14 +97,14 @@ module _ (n : ℕ) (ts : List ℕ) (bs ws scratch : List ℤ) where
   abbrev ownB : List Row
   ownB = row 10 (λ _. row10 bs) ∷ row 11 (λ _. row11 ts bs) ∷ row 12 (λ _. row12 n ts bs) ∷ row 9 (λ _. row9 (backward ts (labels n ts) bs)) ∷ []
 
-  abbrev askedB : Option ℕ
+  abbrev askedB : Option Refusal
   askedB = callRefusal n ts scratch slicesB ownB
 
   -- what is written then
-  abbrev keptB : Option ℕ → List ℤ
-  keptB found = elim found [ none ↦ backward ts (labels n ts) bs | some k ↦ ws ]
+  abbrev keptB : Option Refusal → List ℤ
+  keptB found = elim found [ none ↦ backward ts (labels n ts) bs | some why ↦ ws ]
 
-  givenB : (found : Option ℕ) → askedB ≡ found → Backwards (answerOf tt found) (keptB found)
+  givenB : (found : Option Refusal) → askedB ≡ found → Backwards (answerOf tt found) (keptB found)
   unfolding backwardCall
   givenB found e = (ap (answerOf tt) (sym e), ap keptB (sym e))
 
@@ -117,38 +119,38 @@ module _ (n : ℕ) (ts : List ℕ) (bs ws scratch : List ℤ) where
   backward-early r d f =
       let e = d ∙ back-rows n (length ts) (length scratch) (length ws) (length bs) in
       let g = early-found n ts scratch slicesB r e ownB f in
-      let q = givenB (some r) (g .0) in
-      (q .0, (q .1, sym (g .1) ∙ ap (λ (o : Option ℕ). scratchAfter o scratch) (sym (g .0)) ∙ sym scratchB))
+      let q = givenB (some (numbered r)) (g .0) in
+      (q .0, (q .1, sym (g .1) ∙ ap (λ (o : Option Refusal). scratchAfter o scratch) (sym (g .0)) ∙ sym scratchB))
 
   module _ (L : Lengths n (length ts) (length scratch) (length ws) (length bs)) where
     fitB : Fits n ts scratch slicesB
     fitB = backward-fits n ts scratch (length ws) (length bs) L
 
     -- 3 to 8
-    pub backward-mesh : (k j : ℕ) → firstRefusal (meshRows n ts) ≡ some k → j ≡ k → Backwards (refused (numbered j)) ws
-    backward-mesh k j e f = rw f (givenB (some k) (callRefusal-mesh n ts scratch slicesB ownB k (fitB .size) (fitB .lengths) e))
+    pub backward-mesh : (why told : Refusal) → firstRefusal (meshRows n ts) ≡ some why → told ≡ why → Backwards (refused told) ws
+    backward-mesh why told e f = rw f (givenB (some why) (callRefusal-mesh n ts scratch slicesB ownB why (fitB .size) (fitB .lengths) e))
 
     module _ (e : firstRefusal (meshRows n ts) ≡ none) where
-      mine : (o : Option ℕ) → firstRefusal ownB ≡ o → askedB ≡ o
+      mine : (o : Option Refusal) → firstRefusal ownB ≡ o → askedB ≡ o
       mine o f = callRefusal-own n ts scratch slicesB ownB (fitB .size) (fitB .lengths) e ∙ f
 
       -- 10, 11, 12 and 9
       pub backward-10 : row10 bs ≡ true → Backwards (refused (numbered 10)) ws
       unfolding firstRefusal
-      backward-10 f = givenB (some 10) (mine (some 10) (rw f))
+      backward-10 f = givenB (some (numbered 10)) (mine (some (numbered 10)) (rw f))
 
       pub backward-11 : row10 bs ≡ false → row11 ts bs ≡ true → Backwards (refused (numbered 11)) ws
       unfolding firstRefusal
-      backward-11 f g = givenB (some 11) (mine (some 11) (rw (f, g)))
+      backward-11 f g = givenB (some (numbered 11)) (mine (some (numbered 11)) (rw (f, g)))
 
       pub backward-12 : row10 bs ≡ false → row11 ts bs ≡ false → row12 n ts bs ≡ true → Backwards (refused (numbered 12)) ws
       unfolding firstRefusal
-      backward-12 f g h = givenB (some 12) (mine (some 12) (rw (f, g, h)))
+      backward-12 f g h = givenB (some (numbered 12)) (mine (some (numbered 12)) (rw (f, g, h)))
 
       pub backward-9 : row10 bs ≡ false → row11 ts bs ≡ false → row12 n ts bs ≡ false → row9 (backward ts (labels n ts) bs) ≡ true
           → Backwards (refused (numbered 9)) ws
       unfolding firstRefusal
-      backward-9 f g h i = givenB (some 9) (mine (some 9) (rw (f, g, h, i)))
+      backward-9 f g h i = givenB (some (numbered 9)) (mine (some (numbered 9)) (rw (f, g, h, i)))
 
       -- nothing is found
       pub backward-done : row10 bs ≡ false → row11 ts bs ≡ false → row12 n ts bs ≡ false → row9 (backward ts (labels n ts) bs) ≡ false
@@ -158,7 +160,13 @@ module _ (n : ℕ) (ts : List ℕ) (bs ws scratch : List ℤ) where
           let q = givenB none (mine none (rw (f, g, h, i))) in
           (q .0, j ∙ q .1)
 
+    late : OnlyWith Late ownB
+    late =
+        only-row Late 10 (λ _. row10 bs) _ (omega arith)
+        (only-row Late 11 (λ _. row11 ts bs) _ (omega arith)
+        (only-row Late 12 (λ _. row12 n ts bs) _ (omega arith)
+        (only-row Late 9 (λ _. row9 (backward ts (labels n ts) bs)) [] (omega arith) (only-none Late))))
+
     pub backward-scratch : (s z : List ℤ) → length s ≡ length scratch → z ≡ map (λ _. pos 0) s → z ≡ backwardCall n ts bs ws scratch .scratch
     backward-scratch s z e f =
-        f ∙ cleared scratch s e
-        ∙ zeros n ts scratch slicesB ownB (omega arith, (omega arith, (omega arith, (omega arith, tt)))) fitB ∙ sym scratchB
+        f ∙ cleared scratch s e ∙ zeros n ts scratch slicesB ownB late fitB ∙ sym scratchB

@@ -9,8 +9,9 @@ use maps_limits::off_corner;
 use maps_limits::off_sum;
 use maps_limits::out_of_range;
 use maps_limits::past_limit;
-use mesh_check::MeshAnswer;
-use mesh_check::refusal_of;
+use mesh_answer::MeshAnswer;
+use mesh_answer::Refusal;
+use mesh_answer::refusal_of;
 use scratch_tables::clear;
 ghost use mathlib.Core.Path.{_≡_};
 ghost use lib.ListN.{length};
@@ -18,10 +19,10 @@ ghost use Rattle.definitions.specs.Refusals.{forwardCall, backwardCall};
 ghost use Rattle.maps_call.specs.Answer.{mapToAnswer};
 ghost use Rattle.lent_slices.specs.MapLengths.{Lengths};
 
-// the coordinates or the weights are written; or refused, with the number of the row
+// the coordinates or the weights are written, or the call is refused
 pub enum MapAnswer {
     Written,
-    Refused(u32),
+    Refused(Refusal),
 }
 
 // Rows 3 to 9, and the coordinates. Nothing is said of scratch: the call clears it.
@@ -43,7 +44,7 @@ fn run_forward(
         return MapAnswer::Refused(refusal_of(labelled));
     };
     if past_limit(weights) {
-        return MapAnswer::Refused(9);
+        return MapAnswer::Refused(Refusal::Numbered(9));
     }
     write_coordinates(n, triangles, weights, coordinates, scratch);
     MapAnswer::Written
@@ -72,7 +73,7 @@ pub fn forward(
         scratch.len(),
     );
     if number != 0 {
-        return MapAnswer::Refused(number);
+        return MapAnswer::Refused(Refusal::Numbered(number));
     }
     let answer = run_forward(n, triangles, weights, coordinates, scratch);
     clear(scratch);
@@ -98,16 +99,16 @@ fn run_backward(
         return MapAnswer::Refused(refusal_of(labelled));
     };
     if out_of_range(coordinates) {
-        return MapAnswer::Refused(10);
+        return MapAnswer::Refused(Refusal::Numbered(10));
     }
     if off_corner(triangles, coordinates) {
-        return MapAnswer::Refused(11);
+        return MapAnswer::Refused(Refusal::Numbered(11));
     }
     if off_sum(n, triangles, coordinates) {
-        return MapAnswer::Refused(12);
+        return MapAnswer::Refused(Refusal::Numbered(12));
     }
     if weights_past_limit(triangles, coordinates, scratch) {
-        return MapAnswer::Refused(9);
+        return MapAnswer::Refused(Refusal::Numbered(9));
     }
     write_weights(weights, scratch);
     MapAnswer::Written
@@ -136,7 +137,7 @@ pub fn backward(
         scratch.len(),
     );
     if number != 0 {
-        return MapAnswer::Refused(number);
+        return MapAnswer::Refused(Refusal::Numbered(number));
     }
     let answer = run_backward(n, triangles, coordinates, weights, scratch);
     clear(scratch);

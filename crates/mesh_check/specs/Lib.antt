@@ -1,4 +1,3 @@
--- What the mesh check answers in document 01's numbers, and what it leaves in scratch.
-pub mod Answer
+-- What the mesh check answers, and what it leaves in scratch.
 pub mod Stages
 pub mod CallOutcomes

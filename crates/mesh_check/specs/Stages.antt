@@ -8,26 +8,29 @@ use native.Mathlib.Omega.{arith}
 use native.Mathlib.Decide.{decLt}
 use lib.ListN.{length, List·getD-eq-default}
 use lib.IntN.{ℤ}
-use Rattle.definitions.specs.Mesh.{trianglesLength, scratchLength, org, opp, row3, row4, row5, row6, row7, row8}
-use Rattle.definitions.specs.Answers.{firstRefusal}
+use Rattle.definitions.specs.Mesh.{trianglesLength, scratchLength, org, opp, row3, row4, row7or25, row8}
+use Rattle.definitions.specs.Answers.{numbered, firstRefusal}
 use Rattle.definitions.specs.Refusals.{Slice, slice, mostVertices, meshRows, Accepted as AcceptedMesh}
 use Rattle.theory_sphere.specs.Rows.{row3-means}
-use Rattle.theory_sphere.specs.Sides.{Sides, sides}
+use Rattle.theory_sphere.specs.Sides.{Sides}
 use Rattle.theory_sphere.specs.Sphere.{Sphere}
 use Rattle.theory_sphere.specs.Accept.{row1-range, range-row1, accepted-sphere}
 use Rattle.lent_slices.specs.Calls.{Fits}
-use Rattle.theory_sphere.specs.FirstRefusal.{row2-cons, clean-refusal, mesh-3, mesh-4, mesh-5, mesh-6, mesh-7, mesh-8}
+use Rattle.theory_sphere.specs.FirstRefusal.{row2-cons, clean-refusal, mesh-3, mesh-4, mesh-5, mesh-6, mesh-8}
+use Rattle.theory_sphere.specs.VertexRefusals.{Passed, in-order, from-vertex}
 use Rattle.scratch_tables.specs.Tables.{Tables, tablesOf, blank, withOp, withMark}
 use Rattle.mesh_model.specs.IncidenceLists.{fill, fill-buckets, fill-heads, fill-mark, Bucketed, Headed, blank-counts, blank-heads, Rooted, bucketed-rooted}
 use Rattle.mesh_model.specs.DuplicateSides.{Before}
 use Rattle.mesh_model.specs.Opposites.{Told, twice, lacking, paired, joinAll-told}
-use Rattle.mesh_model.specs.RingWalk.{someRingBroken, someRingBroken-is}
+use Rattle.mesh_model.specs.RingWalk.{firstBroken, firstBroken-is}
 use Rattle.mesh_model.specs.FloodFill.{explore-is}
 use Rattle.mesh_sides.specs.Room.{Room, room, Ready, Filling}
 use Rattle.mesh_sides.specs.LoopInvariants.{AllMatched, joinedAll}
 use Rattle.mesh_connectivity.specs.FloodFillLoops.{Marks, Split}
-use Rattle.mesh_check.specs.declared.MeshAnswer.{MeshAnswer}
-use Rattle.mesh_check.specs.declared.MeshAnswer.the-variants.{Accepted, Refused}
+use Rattle.mesh_answer.specs.Answer.{toRefusal, foundIn}
+use Rattle.mesh_answer.specs.declared.Refusal.{Refusal}
+use Rattle.mesh_answer.specs.declared.MeshAnswer.{MeshAnswer}
+use Rattle.mesh_answer.specs.declared.MeshAnswer.the-variants.{Accepted, Refused}
 
 -- ---- what is lent, and what is left there
 
@@ -52,10 +55,7 @@ pub record Opened (ts : List ℕ) (t : Tables) : Type 0 where
 
 -- rows 3 to 6 have found nothing
 pub record Paired (n : ℕ) (ts : List ℕ) (t : Tables) : Type 0 where
-  pub none3 : row3 ts n ≡ false
-  pub none4 : row4 ts ≡ false
-  pub none5 : row5 ts ≡ false
-  pub none6 : row6 ts ≡ false
+  pub passed : Passed n ts
   pub tables : Opened ts t
 
 -- no row of the mesh has found anything
@@ -66,11 +66,11 @@ pub record Accepting (n : ℕ) (ts : List ℕ) (t : Tables) : Type 0 where
 -- what the answer says: of the rows 3 to 6, and of all rows
 abbrev pub SidesPaired : ℕ → List ℕ → List ℤ → MeshAnswer → Type 0
 SidesPaired n ts s Accepted = Paired n ts (tablesOf s)
-SidesPaired n ts s (Refused k) = firstRefusal (meshRows n ts) ≡ some k
+SidesPaired n ts s (Refused why) = firstRefusal (meshRows n ts) ≡ some (toRefusal why)
 
 abbrev pub Examined : ℕ → List ℕ → List ℤ → MeshAnswer → Type 0
 Examined n ts s Accepted = Accepting n ts (tablesOf s)
-Examined n ts s (Refused k) = firstRefusal (meshRows n ts) ≡ some k
+Examined n ts s (Refused why) = firstRefusal (meshRows n ts) ≡ some (toRefusal why)
 
 -- ---- room
 
@@ -113,11 +113,11 @@ has-marks n ts words L e =
     (record { at = λ t h. omega (arith, L .room, w .1); few = omega (arith, L .most, w .1) }, w .2)
 
 -- rows 3 and 4, as the code finds them
-pub refuse3 : (n : ℕ) (ts : List ℕ) (r : Bool) → r ≡ row3 ts n → r ≡ true → firstRefusal (meshRows n ts) ≡ some 3
+pub refuse3 : (n : ℕ) (ts : List ℕ) (r : Bool) → r ≡ row3 ts n → r ≡ true → firstRefusal (meshRows n ts) ≡ some (numbered 3)
 refuse3 n ts r e f = mesh-3 n ts (sym e ∙ f)
 
 pub refuse4 : (n : ℕ) (ts : List ℕ) (q r : Bool) → q ≡ row3 ts n → q ≡ false → r ≡ row4 ts → r ≡ true →
-    firstRefusal (meshRows n ts) ≡ some 4
+    firstRefusal (meshRows n ts) ≡ some (numbered 4)
 refuse4 n ts q r d g e f = mesh-4 n ts (sym d ∙ g) (sym e ∙ f)
 
 -- ---- rows 5 and 6
@@ -162,18 +162,18 @@ module _ (n : ℕ) (ts : List ℕ) (words : ℕ) (L : Lent n ts words) (r3 : Boo
     none4 : row4 ts ≡ false
     none4 = sym e4 ∙ f4
 
-    pub refuse5 : r ≡ 5 → firstRefusal (meshRows n ts) ≡ some 5
+    pub refuse5 : r ≡ 5 → firstRefusal (meshRows n ts) ≡ some (numbered 5)
     refuse5 e = go told
       where
-        go : Told ts (joinedAll ts n (tablesOf s₂)) → firstRefusal (meshRows n ts) ≡ some 5
+        go : Told ts (joinedAll ts n (tablesOf s₂)) → firstRefusal (meshRows n ts) ≡ some (numbered 5)
         go (twice q f5) = mesh-5 n ts none3 none4 f5
         go (lacking q n5 f6) = absurd (omega (arith, M .row))
         go (paired q n5 n6 o) = absurd (omega (arith, M .row))
 
-    pub refuse6 : r ≡ 6 → firstRefusal (meshRows n ts) ≡ some 6
+    pub refuse6 : r ≡ 6 → firstRefusal (meshRows n ts) ≡ some (numbered 6)
     refuse6 e = go told
       where
-        go : Told ts (joinedAll ts n (tablesOf s₂)) → firstRefusal (meshRows n ts) ≡ some 6
+        go : Told ts (joinedAll ts n (tablesOf s₂)) → firstRefusal (meshRows n ts) ≡ some (numbered 6)
         go (twice q f5) = absurd (omega (arith, M .row))
         go (lacking q n5 f6) = mesh-6 n ts none3 none4 n5 f6
         go (paired q n5 n6 o) = absurd (omega (arith, M .row))
@@ -188,17 +188,14 @@ module _ (n : ℕ) (ts : List ℕ) (words : ℕ) (L : Lent n ts words) (r3 : Boo
         go (paired q g5 g6 o) =
             let R = bucketed-rooted ts (tablesOf s₂) (listed .buckets) in
             record {
-              none3 = none3;
-              none4 = none4;
-              none5 = g5;
-              none6 = g6;
+              passed = record { none3 = none3; none4 = none4; none5 = g5; none6 = g6 };
               tables = rw (M .same (M .row ∙ q)) record {
                 opposites = o;
                 rooted = record { number = R .number; dart = R .dart };
               };
             }
 
--- ---- rows 7 and 8
+-- ---- 7 or 25, and row 8
 
 module _ (n : ℕ) (ts : List ℕ) (words : ℕ) (L : Lent n ts words) (s : List ℤ) (p : MeshAnswer) (e : p ≡ Accepted)
     (S : SidesPaired n ts s p) where
@@ -206,14 +203,18 @@ module _ (n : ℕ) (ts : List ℕ) (words : ℕ) (L : Lent n ts words) (s : List
   P = rw e at S
 
   theSides : Sides n (length ts / 3) (org ts) (opp ts)
-  theSides = sides ts (length ts / 3) (whole n ts L .0) n (P .none3) (P .none4) (P .none5) (P .none6)
+  theSides = in-order n ts (length ts / 3) (whole n ts L .0) (P .passed)
 
-  pub found7 : (r : Bool) → r ≡ someRingBroken (tablesOf s) n 0 → r ≡ row7 ts n
-  found7 r f =
-      f ∙ someRingBroken-is ts (length ts / 3) (whole n ts L .0) n theSides (tablesOf s) (P .tables .rooted) (P .tables .opposites)
+  -- the answer q of 7 and 25
+  module _ (q : MeshAnswer) (f : foundIn q ≡ firstBroken (tablesOf s) n 0) where
+    found7or25 : foundIn q ≡ row7or25 ts n
+    found7or25 = f ∙ firstBroken-is ts (length ts / 3) (whole n ts L .0) n theSides (tablesOf s) (P .tables .rooted) (P .tables .opposites)
 
-  pub refuse7 : (r : Bool) → r ≡ someRingBroken (tablesOf s) n 0 → r ≡ true → firstRefusal (meshRows n ts) ≡ some 7
-  refuse7 r f t = mesh-7 n ts (P .none3) (P .none4) (P .none5) (P .none6) (sym (found7 r f) ∙ t)
+    none7or25 : q ≡ Accepted → row7or25 ts n ≡ none
+    none7or25 a = sym found7or25 ∙ ap foundIn a
+
+    pub refuse7or25 : (why : Refusal) → q ≡ Refused why → Examined n ts s q
+    refuse7or25 why b = rw b (from-vertex n ts (toRefusal why) (P .passed) (sym found7or25 ∙ ap foundIn b))
 
   module _ (s′ : List ℤ) (r : Bool) (D : Split (length ts / 3) s s′ r) where
     found8 : r ≡ row8 ts
@@ -222,30 +223,32 @@ module _ (n : ℕ) (ts : List ℕ) (words : ℕ) (L : Lent n ts words) (s : List
         D .found
         ∙ explore-is ts n theSides (tablesOf s .op) (λ d h. P .tables .opposites d (omega (arith, w .0))) (D .mark) (w .2) (D .zeros)
 
-    pub refuse8 : (q : Bool) → q ≡ someRingBroken (tablesOf s) n 0 → q ≡ false → r ≡ true → firstRefusal (meshRows n ts) ≡ some 8
-    refuse8 q g f t = mesh-8 n ts (P .none3) (P .none4) (P .none5) (P .none6) (sym (found7 q g) ∙ f) (sym found8 ∙ t)
+    module _ (q : MeshAnswer) (f : foundIn q ≡ firstBroken (tablesOf s) n 0) (a : q ≡ Accepted) where
+      pub refuse8 : r ≡ true → firstRefusal (meshRows n ts) ≡ some (numbered 8)
+      refuse8 t = mesh-8 n ts (P .passed .none3) (P .passed .none4) (P .passed .none5) (P .passed .none6) (none7or25 q f a) (sym found8 ∙ t)
 
-    pub accept : (q : Bool) → q ≡ someRingBroken (tablesOf s) n 0 → q ≡ false → r ≡ false → Accepting n ts (tablesOf s′)
-    unfolding withMark
-    accept q g f t = record {
-      clean = clean-refusal n ts record {
-        clean3 = P .none3;
-        clean4 = P .none4;
-        clean5 = P .none5;
-        clean6 = P .none6;
-        clean7 = sym (found7 q g) ∙ f;
-        clean8 = sym found8 ∙ t;
-      };
-      tables = rw (D .same) record {
-        opposites = P .tables .opposites;
-        rooted = record { number = P .tables .rooted .number; dart = P .tables .rooted .dart };
-      };
-    }
+      pub accept : r ≡ false → Accepting n ts (tablesOf s′)
+      unfolding withMark
+      accept t = record {
+        clean = clean-refusal n ts record {
+          clean3 = P .passed .none3;
+          clean4 = P .passed .none4;
+          clean5 = P .passed .none5;
+          clean6 = P .passed .none6;
+          clean7 = none7or25 q f a;
+          clean8 = sym found8 ∙ t;
+        };
+        tables = rw (D .same) record {
+          opposites = P .tables .opposites;
+          rooted = record { number = P .tables .rooted .number; dart = P .tables .rooted .dart };
+        };
+      }
 
 -- ---- an answer taken apart
 
-pub said-refused : (n : ℕ) (ts : List ℕ) (s : List ℤ) (r : MeshAnswer) (k : ℕ) → r ≡ Refused k → SidesPaired n ts s r → Examined n ts s r
-said-refused n ts s r k e S = let p : SidesPaired n ts s (Refused k) = rw e at S in rw e p
+pub said-refused : (n : ℕ) (ts : List ℕ) (s : List ℤ) (r : MeshAnswer) (why : Refusal) → r ≡ Refused why → SidesPaired n ts s r →
+    Examined n ts s r
+said-refused n ts s r why e S = let p : SidesPaired n ts s (Refused why) = rw e at S in rw e p
 
 -- ---- what the calls that go on from here have: an accepted mesh, and so a sphere
 

@@ -1,9 +1,11 @@
-// The mesh check: rows 1 to 8 of the table of refusals, each over the whole mesh before the next, in work linear in n.
+// The mesh check: rows 1 to 8 of the table of refusals and 25 at the place of 7, each over the whole mesh before the next, in work linear in n.
 // Of scratch it uses ten words a vertex: each dart has one, which holds a link of the lists of darts by origin until the dart's opposite is found
 // and takes its place; each vertex has a word for its first dart, one for its number of darts and two for marks, and the marks serve row 8 again.
 use lent_slices::mesh_rows;
+use mesh_answer::MeshAnswer;
+use mesh_answer::Refusal;
+use mesh_connectivity::check_rings;
 use mesh_connectivity::disconnected;
-use mesh_connectivity::some_ring_broken;
 use mesh_sides::fill_incidence_lists;
 use mesh_sides::high_vertex;
 use mesh_sides::match_sides;
@@ -13,14 +15,8 @@ use scratch_tables::clear_tables;
 ghost use mathlib.Core.Path.{_≡_};
 ghost use lib.ListN.{length};
 ghost use Rattle.definitions.specs.Refusals.{checkCall};
-ghost use Rattle.mesh_check.specs.Answer.{meshToAnswer, rowOf};
+ghost use Rattle.mesh_answer.specs.Answer.{meshToAnswer};
 ghost use Rattle.mesh_check.specs.Stages.{Lent, SidesPaired, Examined};
-
-// accepted; or refused, with the number of the row
-pub enum MeshAnswer {
-    Accepted,
-    Refused(u32),
-}
 
 // rows 3 to 6
 fn pair_sides(n: usize, triangles: &[u16], scratch: &mut [i64]) -> MeshAnswer
@@ -28,19 +24,19 @@ fn pair_sides(n: usize, triangles: &[u16], scratch: &mut [i64]) -> MeshAnswer
     ensures { λ r. ⌜ SidesPaired n (now (triangles .entry)) (now (scratch .exit)) r ⌝ }
 {
     if high_vertex(n, triangles) {
-        return MeshAnswer::Refused(3);
+        return MeshAnswer::Refused(Refusal::Numbered(3));
     }
     if repeated_vertex(triangles) {
-        return MeshAnswer::Refused(4);
+        return MeshAnswer::Refused(Refusal::Numbered(4));
     }
     clear_tables(scratch);
     fill_incidence_lists(triangles, scratch);
     let row = match_sides(n, triangles, scratch);
     if row == 5 {
-        return MeshAnswer::Refused(5);
+        return MeshAnswer::Refused(Refusal::Numbered(5));
     }
     if row == 6 {
-        return MeshAnswer::Refused(6);
+        return MeshAnswer::Refused(Refusal::Numbered(6));
     }
     MeshAnswer::Accepted
 }
@@ -55,23 +51,14 @@ pub fn examine(n: usize, triangles: &[u16], scratch: &mut [i64]) -> MeshAnswer
     let MeshAnswer::Accepted = paired else {
         return paired;
     };
-    if some_ring_broken(n, scratch) {
-        return MeshAnswer::Refused(7);
-    }
+    let rings = check_rings(n, scratch);
+    let MeshAnswer::Accepted = rings else {
+        return rings;
+    };
     if disconnected(scratch, triangles.len() / 3) {
-        return MeshAnswer::Refused(8);
+        return MeshAnswer::Refused(Refusal::Numbered(8));
     }
     MeshAnswer::Accepted
-}
-
-// the number of the row that refused a mesh; 0, which is no row, where it was accepted
-pub fn refusal_of(answer: MeshAnswer) -> u32
-    ensures { λ r. ⌜ r ≡ rowOf answer ⌝ }
-{
-    match answer {
-        MeshAnswer::Accepted => 0,
-        MeshAnswer::Refused(number) => number,
-    }
 }
 
 // The public call. Scratch is as lent after 1 and 2, and holds zeros after every other answer.
@@ -81,7 +68,7 @@ pub fn check(n: usize, triangles: &[u16], scratch: &mut [i64]) -> MeshAnswer
 {
     let number = mesh_rows(n, triangles.len(), scratch.len());
     if number != 0 {
-        return MeshAnswer::Refused(number);
+        return MeshAnswer::Refused(Refusal::Numbered(number));
     }
     let answer = examine(n, triangles, scratch);
     clear(scratch);

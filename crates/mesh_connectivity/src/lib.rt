@@ -1,6 +1,8 @@
-// Rows 7 and 8 of the table of refusals. Row 7: from a vertex's first dart by rotations; of as many rotations as it has darts only the last may come back.
+// 7, 25 and 8 of the table of refusals. 25: a vertex has no dart. 7: from its first dart by rotations; of as many as it has darts only the last may come back.
 // Row 8: a flood fill from the outer triangle across sides, by a stack of the triangles that are reached and not yet left. The stack's
 // links stand in the marks, so that a mark that is not 0 says too that its triangle is reached.
+use mesh_answer::MeshAnswer;
+use mesh_answer::Refusal;
 use scratch_tables::get_count;
 use scratch_tables::get_head;
 use scratch_tables::get_mark;
@@ -10,7 +12,8 @@ use scratch_tables::set_mark;
 ghost use mathlib.Core.Path.{_≡_};
 ghost use Prim.Native.Nat.{_<_, _^_, _+_, _-_};
 ghost use Rattle.scratch_tables.specs.Tables.{tablesOf};
-ghost use Rattle.mesh_model.specs.RingWalk.{returnsWithin, ringBroken, someRingBroken};
+ghost use Rattle.mesh_answer.specs.Answer.{foundIn};
+ghost use Rattle.mesh_model.specs.RingWalk.{returnsWithin, brokenAt, firstBroken};
 ghost use mathlib.Core.Bool.{_&&_};
 ghost use lib.Dec.{ltb, eqb};
 ghost use lib.ListN.{length};
@@ -35,30 +38,34 @@ fn returns_to(s: &[i64], h: usize, k: usize) -> bool
     false
 }
 
-// not one ring at v
-fn ring_broken(s: &[i64], v: usize) -> bool
-    ensures { λ r. ⌜ r ≡ ringBroken (tablesOf (now (s .entry))) v ⌝ }
+// the triangles at v: one ring, none at all, or several rings
+fn check_ring(s: &[i64], v: usize) -> MeshAnswer
+    ensures { λ r. ⌜ foundIn r ≡ brokenAt (tablesOf (now (s .entry))) v ⌝ }
 {
     let k = get_count(s, v);
     if k == 0 {
-        return true;
+        return MeshAnswer::Refused(Refusal::VertexStray(v));
     }
     let h = get_head(s, v);
-    returns_to(s, h, k - 1)
+    if returns_to(s, h, k - 1) {
+        return MeshAnswer::Refused(Refusal::VertexPinched(v));
+    }
+    MeshAnswer::Accepted
 }
 
-// row 7: not one ring at a vertex
-pub fn some_ring_broken(n: usize, s: &[i64]) -> bool
-    ensures { λ r. ⌜ r ≡ someRingBroken (tablesOf (now (s .entry))) n 0 ⌝ }
+// 7 and 25: the lowest vertex that has not one ring decides
+pub fn check_rings(n: usize, s: &[i64]) -> MeshAnswer
+    ensures { λ r. ⌜ foundIn r ≡ firstBroken (tablesOf (now (s .entry))) n 0 ⌝ }
 {
     let mut v = 0;
     while v < n {
-        if ring_broken(s, v) {
-            return true;
-        }
+        let ring = check_ring(s, v);
+        let MeshAnswer::Accepted = ring else {
+            return ring;
+        };
         v += 1;
     }
-    false
+    MeshAnswer::Accepted
 }
 
 // zeros in the first m marks

@@ -1,18 +1,20 @@
--- Row 7 by going round: from a vertex's dart by rotations, and no rotation but the last of as many as the vertex has darts may come back to it. Assumes
--- nothing.
+-- 7 and 25 by going round, vertex by vertex: it has a dart, and from that by rotations, of which none but the last of as many as it has darts may come
+-- back to it. Assumes nothing.
 use Prim.Native.Nat.{ℕ, zero, suc, _-_, _*_, _≤_, _<_}
 use mathlib.Core.Path.{_≡_, refl, sym, ap, _∙_}
 use mathlib.Core.Logic.{_≢_, inl, inr}
-use mathlib.Core.Bool.{Bool, true, false, cond, not}
-use mathlib.Core.List.{List, [], _∷_}
+use mathlib.Core.Bool.{Bool, true, false, _||_, cond}
+use mathlib.Core.List.{List}
+use mathlib.Core.Option.{Option, none, some}
 use native.Mathlib.Omega.{arith}
 use native.Mathlib.Decide.{ℕ-discrete, decLe}
 use lib.Dec.{eqb}
 use lib.ListN.{length}
 use borrow.Author.Tests.{eq-eqb, ne-eqb, eqb-true, eqb-false}
-use Rattle.definitions.specs.Lists.{any, range, upto, iterate}
-use Rattle.definitions.specs.Mesh.{prev, org, opp, rot, outgoing, ring, row7}
-use Rattle.laws.specs.Lists.{_∈_, tested, clash, any-same}
+use Rattle.definitions.specs.Lists.{range, upto, iterate, first}
+use Rattle.definitions.specs.Answers.{Refusal, vertexPinched, vertexStray}
+use Rattle.definitions.specs.Mesh.{prev, org, opp, rot, outgoing, ring, stray, pinched, row7or25}
+use Rattle.laws.specs.Lists.{_∈_, tested, clash}
 use Rattle.theory_sphere.specs.Darts.{prev-below}
 use Rattle.theory_sphere.specs.Rows.{outgoing-in}
 use Rattle.theory_sphere.specs.Sides.{Sides, rot-below}
@@ -25,28 +27,21 @@ unfoldable pub returnsWithin : (ℕ → ℕ) → ℕ → ℕ → ℕ → Bool
 returnsWithin op h zero d = false
 returnsWithin op h (suc k) d = cond (eqb (op (prev d)) h) true (returnsWithin op h k (op (prev d)))
 
--- not one ring: no dart, or a rotation that comes back too soon
-unfoldable pub ringBroken : Tables → ℕ → Bool
-ringBroken t v = cond (eqb (t .count v) 0) true (returnsWithin (t .op) (t .head v) (t .count v - 1) (t .head v))
+-- what is found at v: no dart, or a rotation that comes back too soon
+unfoldable pub brokenAt : Tables → ℕ → Option Refusal
+brokenAt t v =
+    cond (eqb (t .count v) 0) (some (vertexStray v))
+    (cond (returnsWithin (t .op) (t .head v) (t .count v - 1) (t .head v)) (some (vertexPinched v)) none)
 
--- k vertices from v on
-unfoldable pub someRingBroken : Tables → ℕ → ℕ → Bool
-someRingBroken t zero v = false
-someRingBroken t (suc k) v = cond (ringBroken t v) true (someRingBroken t k (suc v))
+-- and at the first of k vertices from v on where something is found
+unfoldable pub firstBroken : Tables → ℕ → ℕ → Option Refusal
+firstBroken t zero v = none
+firstBroken t (suc k) v = elim (brokenAt t v) [ some why ↦ some why | none ↦ firstBroken t k (suc v) ]
 
-pub someRingBroken-any : (t : Tables) (k v : ℕ) → someRingBroken t k v ≡ any (ringBroken t) (range v k)
-unfolding someRingBroken any range
-someRingBroken-any t zero v = refl
-someRingBroken-any t (suc k) v =
-    elim (tested (ringBroken t v)) [
-      | inl e ↦ rw e
-      | inr e ↦ rw e (someRingBroken-any t k (suc v))
-    ]
-
-ring-none : (ts ds : List ℕ) → length ds ≡ 0 → ring ts ds ≡ false
-unfolding ring
-ring-none ts [] e = refl
-ring-none ts (d ∷ ds) e = absurd (omega arith)
+pub firstBroken-step : (t : Tables) (k v : ℕ) (b : Option Refusal) → brokenAt t v ≡ b →
+    firstBroken t (suc k) v ≡ elim b [ some why ↦ some why | none ↦ firstBroken t k (suc v) ]
+unfolding firstBroken
+firstBroken-step t k v b e = ap (λ (b : Option Refusal). elim b [ some why ↦ some why | none ↦ firstBroken t k (suc v) ]) e
 
 module _ (ts : List ℕ) (T : ℕ) (whole : length ts ≡ 3 * T) (n : ℕ) (S : Sides n T (org ts) (opp ts))
     (t : Tables) (R : Rooted ts t) (O : (e : ℕ) → e < length ts → t .op e ≡ opp ts e) where
@@ -89,37 +84,63 @@ module _ (ts : List ℕ) (T : ℕ) (whole : length ts ≡ 3 * T) (n : ℕ) (S : 
             ]
       ]
 
-  pub ringBroken-is : (v : ℕ) → ringBroken t v ≡ not (ring ts (outgoing ts v))
-  unfolding ringBroken
-  ringBroken-is v =
+  stray-is : (v : ℕ) → eqb (t .count v) 0 ≡ stray ts v
+  unfolding stray
+  stray-is v = ap (λ (k : ℕ). eqb k 0) (R .number v)
+
+  pinched-is : (v : ℕ) → stray ts v ≡ false → returnsWithin (t .op) (t .head v) (t .count v - 1) (t .head v) ≡ pinched ts v
+  unfolding pinched
+  pinched-is v s =
       let m = R .number v in
-      elim (ℕ-discrete (t .count v) 0) [
-        | yes z ↦ rw (eq-eqb (t .count v) 0 z) (sym (ap not (ring-none ts (outgoing ts v) (omega arith))))
-        | no z ↦
-            let d = t .head v in
-            let at : d ∈ outgoing ts v = R .dart v (omega arith) in
-            let below : d < 3 * T = omega (arith, outgoing-in ts v at .0) in
-            let P = ring-period ts T whole n S v d at in
-            let p = P .1 in
-            let is = ring-rotations ts T whole n S v d (P .0) at p in
-            let short : P .0 ≤ length (outgoing ts v) = P .2 in
-            elim (tested (returnsWithin (t .op) d (t .count v - 1) d)) [
-              | inl e ↦
-                  let r = returnsWithin-true d (t .count v - 1) d below e in
-                  let no-ring : ring ts (outgoing ts v) ≡ false =
-                  is ∙ ne-eqb (P .0) (length (outgoing ts v)) (λ q. p .soonest (r .0) (r .1) (omega (arith, r .2)) (r .3)) in
-                  rw (ne-eqb (t .count v) 0 z, e, no-ring)
-              | inr e ↦
-                  let long : length (outgoing ts v) ≤ P .0 =
-                  elim (decLe (length (outgoing ts v)) (P .0)) [
-                    | yes h ↦ h
-                    | no h ↦ absurd (returnsWithin-false d (t .count v - 1) d below e (P .0) (p .some) (omega arith) (p .back))
-                  ] in
-                  let one-ring : ring ts (outgoing ts v) ≡ true = is ∙ eq-eqb (P .0) (length (outgoing ts v)) (omega arith) in
-                  rw (ne-eqb (t .count v) 0 z, e, one-ring)
-            ]
+      let some-dart : t .count v ≢ 0 = eqb-false (t .count v) 0 (stray-is v ∙ s) in
+      let d = t .head v in
+      let at : d ∈ outgoing ts v = R .dart v (omega arith) in
+      let below : d < 3 * T = omega (arith, outgoing-in ts v at .0) in
+      let P = ring-period ts T whole n S v d at in
+      let p = P .1 in
+      let is = ring-rotations ts T whole n S v d (P .0) at p in
+      let short : P .0 ≤ length (outgoing ts v) = P .2 in
+      elim (tested (returnsWithin (t .op) d (t .count v - 1) d)) [
+        | inl e ↦
+            let r = returnsWithin-true d (t .count v - 1) d below e in
+            let no-ring : ring ts (outgoing ts v) ≡ false =
+            is ∙ ne-eqb (P .0) (length (outgoing ts v)) (λ q. p .soonest (r .0) (r .1) (omega (arith, r .2)) (r .3)) in
+            rw (e, s, no-ring)
+        | inr e ↦
+            let long : length (outgoing ts v) ≤ P .0 =
+            elim (decLe (length (outgoing ts v)) (P .0)) [
+              | yes h ↦ h
+              | no h ↦ absurd (returnsWithin-false d (t .count v - 1) d below e (P .0) (p .some) (omega arith) (p .back))
+            ] in
+            let one-ring : ring ts (outgoing ts v) ≡ true = is ∙ eq-eqb (P .0) (length (outgoing ts v)) (omega arith) in
+            rw (e, s, one-ring)
       ]
 
-  pub someRingBroken-is : someRingBroken t n 0 ≡ row7 ts n
-  unfolding row7 upto
-  someRingBroken-is = someRingBroken-any t n 0 ∙ any-same (ringBroken t) (λ v. not (ring ts (outgoing ts v))) (range 0 n) (λ v m. ringBroken-is v)
+  -- the walk finds at v what the definition finds there
+  brokenAt-is : (v : ℕ) → brokenAt t v ≡ cond (stray ts v) (some (vertexStray v)) (cond (pinched ts v) (some (vertexPinched v)) none)
+  unfolding brokenAt
+  brokenAt-is v =
+      elim (tested (stray ts v)) [
+        | inl s ↦ rw (stray-is v, s)
+        | inr s ↦ rw (stray-is v, s, pinched-is v s)
+      ]
+
+  -- what the lowest of the vertices that are stray or pinched decides
+  abbrev decided : Option ℕ → Option Refusal
+  decided o = elim o [ none ↦ none | some u ↦ some (cond (stray ts u) (vertexStray u) (vertexPinched u)) ]
+
+  firstBroken-range : (k v : ℕ) → firstBroken t k v ≡ decided (first (λ u. stray ts u || pinched ts u) (range v k))
+  unfolding firstBroken first range
+  firstBroken-range zero v = refl
+  firstBroken-range (suc k) v =
+      elim (tested (stray ts v)) [
+        | inl s ↦ firstBroken-step t k v (some (vertexStray v)) (brokenAt-is v ∙ rw s) ∙ rw s (rw s)
+        | inr s ↦ elim (tested (pinched ts v)) [
+          | inl p ↦ firstBroken-step t k v (some (vertexPinched v)) (brokenAt-is v ∙ rw (s, p)) ∙ rw (s, p) (rw s)
+          | inr p ↦ firstBroken-step t k v none (brokenAt-is v ∙ rw (s, p)) ∙ firstBroken-range k (suc v) ∙ rw (s, p)
+        ]
+      ]
+
+  pub firstBroken-is : firstBroken t n 0 ≡ row7or25 ts n
+  unfolding row7or25 upto
+  firstBroken-is = firstBroken-range n 0

@@ -1,25 +1,23 @@
 -- What the repair call answers and leaves, for each way that it can end: the equations of `repairCall`. Assumes nothing.
-use Prim.Native.Nat.{ℕ, _≤_}
+use Prim.Native.Nat.{ℕ}
 use mathlib.Core.Path.{_≡_, sym, ap, _∙_}
 use mathlib.Core.Bool.{true, false}
 use mathlib.Core.List.{List, [], _∷_, map}
 use mathlib.Core.Option.{Option, none, some}
 use native.Mathlib.Omega.{arith}
-use lib.Dec.{leb}
 use lib.ListN.{length}
 use lib.IntN.{ℤ, pos}
-use borrow.Author.Tests.{lt-leb}
 use Rattle.definitions.specs.Mesh.{weightsLength, coordinatesLength}
-use Rattle.definitions.specs.Answers.{Answer, refused, numbered, Row, row, firstRefusal}
+use Rattle.definitions.specs.Answers.{Answer, refused, numbered, Refusal, Row, row, firstRefusal}
 use Rattle.definitions.specs.Labels.{labels}
 use Rattle.definitions.specs.Forward.{forward}
 use Rattle.definitions.specs.Repair.{repair}
 use Rattle.definitions.specs.Refusals.{row9, Slice, slice, meshRows, scratchAfter, callRefusal, repairAnswer, repairCall}
 use Rattle.definitions.specs.Refusals.{Accepted as AcceptedMesh}
-use Rattle.theory_sphere.specs.FirstRefusal.{refusal-found, refusal-passed, callRefusal-mesh, callRefusal-own}
+use Rattle.theory_sphere.specs.FirstRefusal.{row-found, row-passed, refusal-found, refusal-passed, callRefusal-mesh, callRefusal-own}
 use Rattle.labels_tables.specs.LabelledTables.{Peeled}
 use Rattle.lent_slices.specs.Lengths.{firstRows}
-use Rattle.lent_slices.specs.Calls.{Fits, early-found, late, mesh-late, cleared}
+use Rattle.lent_slices.specs.Calls.{Fits, early-found, Late, mesh-late, late-zeros, cleared}
 use Rattle.lent_slices.specs.MapLengths.{Lengths, forwardSlices, forward-fits}
 use Rattle.repair_loop.specs.declared.Ended.{Ended}
 use Rattle.repair_loop.specs.Answer.{endToAnswer, Ends}
@@ -43,28 +41,31 @@ module _ (n : ℕ) (ts : List ℕ) (ws bs scratch : List ℤ) where
   abbrev slices : List Slice
   slices = slice (length ws) (weightsLength n) ∷ slice (length bs) (coordinatesLength n) ∷ []
 
-  abbrev own : List Row
-  own = row 9 (λ _. row9 ws) ∷ []
+  abbrev nine : Row
+  nine = row 9 (λ _. row9 ws)
 
-  abbrev answerOf : Option ℕ → Answer ℕ
+  abbrev own : List Row
+  own = nine ∷ []
+
+  abbrev answerOf : Option Refusal → Answer ℕ
   answerOf found =
       elim found [
         | none ↦ repairAnswer (repair n ts (labels n ts) ws .ending) (length (repair n ts (labels n ts) ws .raises))
-        | some k ↦ refused (numbered k)
+        | some why ↦ refused why
       ]
 
-  abbrev weightsOf : Option ℕ → List ℤ
-  weightsOf found = elim found [ none ↦ repair n ts (labels n ts) ws .weights | some k ↦ ws ]
+  abbrev weightsOf : Option Refusal → List ℤ
+  weightsOf found = elim found [ none ↦ repair n ts (labels n ts) ws .weights | some why ↦ ws ]
 
-  abbrev coordinatesOf : Option ℕ → List ℤ
-  coordinatesOf found = elim found [ none ↦ forward n ts (labels n ts) (repair n ts (labels n ts) ws .weights) | some k ↦ bs ]
+  abbrev coordinatesOf : Option Refusal → List ℤ
+  coordinatesOf found = elim found [ none ↦ forward n ts (labels n ts) (repair n ts (labels n ts) ws .weights) | some why ↦ bs ]
 
-  given : (found : Option ℕ) → callRefusal n ts scratch slices own ≡ found →
+  given : (found : Option Refusal) → callRefusal n ts scratch slices own ≡ found →
       Gives (answerOf found) (weightsOf found) (coordinatesOf found) (scratchAfter found scratch)
   unfolding repairCall
   given found e = (
     ap answerOf (sym e),
-    (ap weightsOf (sym e), (ap coordinatesOf (sym e), ap (λ (f : Option ℕ). scratchAfter f scratch) (sym e))),
+    (ap weightsOf (sym e), (ap coordinatesOf (sym e), ap (λ (f : Option Refusal). scratchAfter f scratch) (sym e))),
   )
 
   -- 1 and 2
@@ -72,7 +73,7 @@ module _ (n : ℕ) (ts : List ℕ) (ws bs scratch : List ℤ) where
       → Gives (refused (numbered r)) ws bs scratch
   gives-early r e f =
       let g = early-found n ts scratch slices r e own f in
-      let h = given (some r) (g .0) in
+      let h = given (some (numbered r)) (g .0) in
       (h .0, (h .1 .0, (h .1 .1 .0, sym (g .1) ∙ h .1 .1 .1)))
 
   -- 3 to 9, or nothing
@@ -81,16 +82,14 @@ module _ (n : ℕ) (ts : List ℕ) (ws bs scratch : List ℤ) where
     fits = forward-fits n ts scratch (length ws) (length bs) L
 
     -- a row with a number from 3 on
-    given-row : (k : ℕ) → 3 ≤ k → callRefusal n ts scratch slices own ≡ some k → Given n ts ws bs scratch (refused (numbered k)) ws bs
-    unfolding scratchAfter
-    given-row k l e =
-        let g = given (some k) e in
-        let z : leb k 2 ≡ false = lt-leb k 2 (omega arith) in
-        record { answer = g .0; weights = g .1 .0; coordinates = g .1 .1 .0; zeros = rw z at (g .1 .1 .1) }
+    given-row : (why : Refusal) → Late why → callRefusal n ts scratch slices own ≡ some why → Given n ts ws bs scratch (refused why) ws bs
+    given-row why l e =
+        let g = given (some why) e in
+        record { answer = g .0; weights = g .1 .0; coordinates = g .1 .1 .0; zeros = sym (late-zeros why scratch l) ∙ g .1 .1 .1 }
 
-    pub given-refusal : (k j : ℕ) → firstRefusal (meshRows n ts) ≡ some k → j ≡ k → Given n ts ws bs scratch (refused (numbered j)) ws bs
-    given-refusal k j S e =
-        rw e (given-row k (late (meshRows n ts) (mesh-late n ts) k S) (callRefusal-mesh n ts scratch slices own k (fits .size) (fits .lengths) S))
+    pub given-refusal : (why told : Refusal) → firstRefusal (meshRows n ts) ≡ some why → told ≡ why → Given n ts ws bs scratch (refused told) ws bs
+    given-refusal why told S e =
+        rw e (given-row why (mesh-late n ts why S) (callRefusal-mesh n ts scratch slices own why (fits .size) (fits .lengths) S))
 
     -- on an accepted mesh
     module _ (A : AcceptedMesh n ts) where
@@ -98,13 +97,13 @@ module _ (n : ℕ) (ts : List ℕ) (ws bs scratch : List ℤ) where
       on-mesh = callRefusal-own n ts scratch slices own (fits .size) (fits .lengths) (A .2)
 
       pub given-9 : row9 ws ≡ true → Given n ts ws bs scratch (refused (numbered 9)) ws bs
-      given-9 e = given-row 9 (omega arith) (on-mesh ∙ refusal-found 9 (λ _. row9 ws) [] e)
+      given-9 e = given-row (numbered 9) (omega arith) (on-mesh ∙ refusal-found nine [] (numbered 9) (row-found 9 (λ _. row9 ws) e))
 
       pub given-end : row9 ws ≡ false → (end : Ended) (ws′ bs′ : List ℤ) → Ends n ts (labels n ts) ws ws′ bs′ end →
           Given n ts ws bs scratch (endToAnswer end) ws′ bs′
       unfolding scratchAfter firstRefusal
       given-end e end ws′ bs′ E =
-          let g = given none (on-mesh ∙ refusal-passed 9 (λ _. row9 ws) [] e) in
+          let g = given none (on-mesh ∙ refusal-passed nine [] (row-passed 9 (λ _. row9 ws) e)) in
           record { answer = E .answer ∙ g .0; weights = E .weights ∙ g .1 .0; coordinates = E .coordinates ∙ g .1 .1 .0; zeros = g .1 .1 .1 }
 
   -- what the loop is called for

@@ -2,8 +2,9 @@
 // it moves and the triangles on the raised one's three walks, which are at most linear in n.
 use labels_call::label_mesh;
 use lent_slices::map_rows;
-use mesh_check::MeshAnswer;
-use mesh_check::refusal_of;
+use mesh_answer::MeshAnswer;
+use mesh_answer::Refusal;
+use mesh_answer::refusal_of;
 use repair_loop::Ended;
 use repair_loop::repair_labelled;
 use scratch_tables::clear;
@@ -15,10 +16,10 @@ ghost use Rattle.repair_loop.specs.Answer.{endToAnswer};
 ghost use Rattle.repair_call.specs.Answer.{repairToAnswer};
 ghost use Rattle.repair_call.specs.CallOutcomes.{Given};
 
-// repaired, with the count of raises; refused, with the number of the row; or 13, with the count so far
+// repaired, with the count of raises; refused; or 13, with the count so far
 pub enum RepairAnswer {
     Repaired(usize),
-    Refused(u32),
+    Refused(Refusal),
     Stopped(usize),
 }
 
@@ -48,7 +49,7 @@ fn run_repair(
         return RepairAnswer::Refused(refusal_of(labelled));
     };
     if maps_limits::past_limit(weights) {
-        return RepairAnswer::Refused(9);
+        return RepairAnswer::Refused(Refusal::Numbered(9));
     }
     let end = repair_labelled(n, triangles, weights, coordinates, scratch);
     ended(end)
@@ -80,7 +81,7 @@ pub fn repair(
         scratch.len(),
     );
     if number != 0 {
-        return RepairAnswer::Refused(number);
+        return RepairAnswer::Refused(Refusal::Numbered(number));
     }
     let answer = run_repair(n, triangles, weights, coordinates, scratch);
     clear(scratch);

@@ -6,7 +6,7 @@ use repair_call::RepairAnswer;
 fn number(answer: RepairAnswer) -> u64 {
     match answer {
         RepairAnswer::Repaired(_) => 0,
-        RepairAnswer::Refused(k) => k as u64,
+        RepairAnswer::Refused(why) => mesh_answer::number_of(why) as u64,
         RepairAnswer::Stopped(_) => 13,
     }
 }

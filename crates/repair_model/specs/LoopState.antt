@@ -19,7 +19,7 @@ use Rattle.definitions.specs.Forward.{forward}
 use Rattle.definitions.specs.Repair.{limit, bad, raise, addTo, Ending, finished, stopped, outOfFuel, RepairState, repairLoop, repair}
 use Rattle.definitions.specs.Refusals.{row9, row10}
 use Rattle.laws.specs.Integers.{int, zpos}
-use Rattle.laws.specs.Lists.{_∈_, tested, clash, any-true, any-false}
+use Rattle.laws.specs.Lists.{_∈_, tested, clash, any-true, any-false, first-at, first-not}
 use Rattle.theory_sphere.specs.Sphere.{Sphere}
 use Rattle.theory_realizer.specs.Units.{Units, unit0, unit1}
 use Rattle.theory_crossings.specs.UnitMaps.{units}
@@ -31,7 +31,7 @@ use Rattle.theory_repair.specs.AllWalks.{walkTriangles}
 use Rattle.theory_repair.specs.RegionBorders.{off-walks}
 use Rattle.scratch_tables.specs.Tables.{tablesOf}
 use Rattle.repair_model.specs.Raise.{Drawn, Moved, drawn-within, drawn-first, moved-drawn, bad-kept}
-use Rattle.repair_model.specs.Search.{badAt, raiseAt, Found, Next, first-at, first-not}
+use Rattle.repair_model.specs.Search.{badAt, raiseAt, Found, Next}
 use Rattle.repair_model.specs.Ready.{Ready, walkOn-is, tells-bad, tells-raise}
 
 -- ---- one iteration of the definition's loop

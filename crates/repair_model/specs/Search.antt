@@ -5,14 +5,12 @@ use mathlib.Core.Path.{_≡_, refl, sym, ap, _∙_}
 use mathlib.Core.Logic.{_≢_, inl, inr}
 use mathlib.Core.Bool.{Bool, true, false, cond}
 use mathlib.Core.List.{List, [], _∷_}
-use mathlib.Core.Option.{none, some}
 use native.Mathlib.Omega.{arith}
 use native.Mathlib.Decide.{ℕ-discrete}
 use lib.Dec.{eqb}
 use lib.ListN.{length}
 use lib.IntN.{ℤ, _+ℤ_}
 use borrow.Author.Tests.{ne-eqb}
-use Rattle.definitions.specs.Lists.{range, first}
 use Rattle.definitions.specs.Mesh.{trianglesLength, tri, next, prev, org, tip, opp}
 use Rattle.definitions.specs.Labels.{outer, label, corner}
 use Rattle.definitions.specs.Backward.{coordinate}
@@ -70,23 +68,6 @@ pub record Next (S : Tables) (bs : List ℤ) (full t to r : ℕ) : Type 0 where
   pub low-most : low ≤ t
   pub clear : (c : ℕ) → c < 3 → (g : ℕ) → g ∈ walkOn S c to t → full ≤ g → g < low → badAt S bs g ≡ false
   pub found : Found (badAt S bs) low to r
-
--- ---- the first of a run
-
-pub first-at : (p : ℕ → Bool) (a k t : ℕ) → a ≤ t → t < a + k → ((i : ℕ) → a ≤ i → i < t → p i ≡ false) → p t ≡ true →
-    first p (range a k) ≡ some t
-unfolding first range
-first-at p a zero t h l b e = absurd (omega arith)
-first-at p a (suc k) t h l b e =
-    elim (ℕ-discrete a t) [
-      | yes q ↦ rw (ap p q ∙ e) (ap some q)
-      | no q ↦ rw (b a (omega arith) (omega arith)) (first-at p (suc a) k t (omega arith) (omega arith) (λ i m n. b i (omega arith) n) e)
-    ]
-
-pub first-not : (p : ℕ → Bool) (a k : ℕ) → ((i : ℕ) → a ≤ i → i < a + k → p i ≡ false) → first p (range a k) ≡ none
-unfolding first range
-first-not p a zero b = refl
-first-not p a (suc k) b = rw (b a (omega arith) (omega arith)) (first-not p (suc a) k (λ i m n. b i (omega arith) (omega arith)))
 
 -- ---- the walks
 

@@ -1,13 +1,13 @@
 -- The snapping call in two parts: which of its rows finds something, and what comes of it. Assumes nothing.
 use Prim.Native.Nat.{ℕ}
 use mathlib.Core.Path.{_≡_, refl}
-use mathlib.Core.Bool.{Bool, true, false, not}
+use mathlib.Core.Bool.{Bool, not}
 use mathlib.Core.List.{List, [], _∷_}
 use mathlib.Core.Option.{Option, none, some}
 use lib.IntN.{ℤ}
 use lib.Ieee.{Float}
 use lib.ListN.{length}
-use Rattle.definitions.specs.Answers.{numbered, Answer, done, refused}
+use Rattle.definitions.specs.Answers.{Refusal, Answer, done, refused, row, firstRefusal}
 use Rattle.definitions.specs.Mesh.{pointsLength, coordinatesLength}
 use Rattle.definitions.specs.DrawnPoints.{effectiveScale, scaleAllowed, snapAll}
 use Rattle.definitions.specs.Refusals.{row1, row2, mostVertices, Slice, slice, Snapped, snapCallWhereZeroIs}
@@ -17,17 +17,14 @@ abbrev pub slices : ℕ → List Float → List ℤ → List Slice
 slices n shares bs = slice (length shares) (pointsLength n) ∷ slice (length bs) (coordinatesLength n) ∷ []
 
 -- the first of three rows that finds something, and what comes of it
-unfoldable pub found : Bool → Bool → Bool → Option ℕ
-found a b c =
-    elim a [
-      | true ↦ some 1
-      | false ↦ elim b [ true ↦ some 2 | false ↦ elim c [ true ↦ some 14 | false ↦ none ] ]
-    ]
+unfoldable pub found : Bool → Bool → Bool → Option Refusal
+unfolding firstRefusal
+found a b c = firstRefusal (row 1 (λ _. a) ∷ row 2 (λ _. b) ∷ row 14 (λ _. c) ∷ [])
 
-unfoldable pub outcome : Option ℕ → Answer (List ℤ) → List ℤ → Snapped
+unfoldable pub outcome : Option Refusal → Answer (List ℤ) → List ℤ → Snapped
 outcome f w bs =
     elim f [
-      | some k ↦ record { answer = refused (numbered k); coordinates = bs }
+      | some why ↦ record { answer = refused why; coordinates = bs }
       | none ↦
           elim w [
             | refused why ↦ record { answer = refused why; coordinates = bs }

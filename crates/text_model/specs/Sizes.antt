@@ -10,7 +10,7 @@ use lib.Dec.{ltb}
 use lib.ListN.{length}
 use lib.IntN.{ℤ}
 use borrow.Author.Tests.{ltb-false}
-use Rattle.definitions.specs.Answers.{Answer, done, refused, numbered, stoppedAfter, shareOutside, lineBroken}
+use Rattle.definitions.specs.Answers.{Answer, done, refused, numbered, vertexPinched, vertexStray, stoppedAfter, shareOutside, lineBroken}
 use Rattle.definitions.specs.Refusals.{row1}
 use Rattle.definitions.specs.Job.{SplitLine, splitLine, fields, Read, got, breaks, readLine, readLines, headLine, triangleLine, weightLine, Job, readBody}
 use Rattle.definitions.specs.Job.{readJob}
@@ -52,6 +52,8 @@ lines-break {A} layout (suc k) at text l e = go (λ rest m. lines-break layout k
 abbrev pub Fits : Answer Job → Type 0
 Fits (done job) = (3 ≤ job .n) × (job .n ≤ 256)
 Fits (refused (numbered k)) = Unit {0}
+Fits (refused (vertexPinched v)) = Unit {0}
+Fits (refused (vertexStray v)) = Unit {0}
 Fits (refused (stoppedAfter count)) = Unit {0}
 Fits (refused (shareOutside share)) = Unit {0}
 Fits (refused (lineBroken l)) = l ≤ 1017

@@ -1,8 +1,8 @@
 -- The public call of repair, in its parts: what a call that goes on was lent, what it answers, and what it leaves. Assumes nothing.
-use Prim.Native.Nat.{ℕ, _<_}
-use mathlib.Core.Path.{_≡_, refl, sym, _∙_}
-use mathlib.Core.Logic.{_≢_, _⊎_, inl, inr}
-use mathlib.Core.List.{List, [], _∷_, _++_}
+use Prim.Native.Nat.{ℕ, _≤_}
+use mathlib.Core.Path.{_≡_, refl}
+use mathlib.Core.Logic.{_⊎_, inl, inr}
+use mathlib.Core.List.{List, [], _∷_}
 use mathlib.Core.Option.{Option, none, some}
 use native.Mathlib.Omega.{arith}
 use lib.ListN.{length}
@@ -11,24 +11,9 @@ use Rattle.definitions.specs.Mesh.{weightsLength, coordinatesLength}
 use Rattle.definitions.specs.Labels.{labels}
 use Rattle.definitions.specs.Forward.{forward}
 use Rattle.definitions.specs.Repair.{Ending, finished, stopped, outOfFuel, repair}
-use Rattle.definitions.specs.Answers.{Answer, done, refused, numbered, stoppedAfter, Row, row, firstRefusal}
-use Rattle.definitions.specs.Refusals.{Accepted, mostVertices, slice, row1, row2, row9, meshRows, callRefusal, repairAnswer, repairCall}
-use Rattle.laws.specs.Lists.{tested}
-use Rattle.theory_sphere.specs.FirstRefusal.{refusal-found, refusal-passed, row2-cons, lent, callRefusal-none}
-
--- rows whose numbers are not 0 do not answer 0
-abbrev Numbered : List Row → Type 0
-Numbered [] = Unit {0}
-Numbered (row k test ∷ rows) = (0 < k) × Numbered rows
-
-refusal-number : (rows : List Row) → Numbered rows → firstRefusal rows ≢ some 0
-unfolding firstRefusal
-refusal-number [] h e = let z : _≡_ {A = ℕ} 0 1 = cc in omega arith
-refusal-number (row k test ∷ rows) h e =
-    elim (tested (test tt)) [
-      | inl t ↦ let q = sym (refusal-found k test rows t) ∙ e in let z : k ≡ 0 = cc in omega (arith, h .0)
-      | inr t ↦ refusal-number rows (h .1) (sym (refusal-passed k test rows t) ∙ e)
-    ]
+use Rattle.definitions.specs.Answers.{Answer, done, refused, Refusal, numbered, vertexPinched, vertexStray, stoppedAfter, shareOutside, lineBroken, row}
+use Rattle.definitions.specs.Refusals.{Accepted, slice, row9, callRefusal, repairAnswer, repairCall}
+use Rattle.theory_sphere.specs.FirstRefusal.{only-none, only-row, row2-cons, callRefusal-only, callRefusal-none}
 
 -- the answer tells how many raises there were
 pub toAnswer : (e : Ending) (k count : ℕ) → (repairAnswer e k ≡ done count) ⊎ (repairAnswer e k ≡ refused (stoppedAfter count)) → count ≡ k
@@ -58,23 +43,32 @@ stopped-early finished k count q = cc
 stopped-early stopped k count q = refl
 stopped-early outOfFuel k count q = cc
 
+-- what the rows of the call refuse with
+abbrev pub FromRows : Refusal → Type 0
+FromRows (numbered k) = 1 ≤ k
+FromRows (vertexPinched v) = Unit {0}
+FromRows (vertexStray v) = Unit {0}
+FromRows (stoppedAfter count) = ⊥
+FromRows (shareOutside share) = ⊥
+FromRows (lineBroken line) = ⊥
+
 -- the parts of the call's outcome, by what the rows found
 module _ (n : ℕ) (ts : List ℕ) (ws bs scratch : List ℤ) where
-  abbrev pub found : Option ℕ
+  abbrev pub found : Option Refusal
   found = callRefusal n ts scratch (slice (length ws) (weightsLength n) ∷ slice (length bs) (coordinatesLength n) ∷ []) (row 9 (λ _. row9 ws) ∷ [])
 
-  abbrev pub answerAt : Option ℕ → Answer ℕ
+  abbrev pub answerAt : Option Refusal → Answer ℕ
   answerAt o =
       elim o [
         | none ↦ repairAnswer (repair n ts (labels n ts) ws .ending) (length (repair n ts (labels n ts) ws .raises))
-        | some k ↦ refused (numbered k)
+        | some why ↦ refused why
       ]
 
-  abbrev pub weightsAt : Option ℕ → List ℤ
-  weightsAt o = elim o [ none ↦ repair n ts (labels n ts) ws .weights | some k ↦ ws ]
+  abbrev pub weightsAt : Option Refusal → List ℤ
+  weightsAt o = elim o [ none ↦ repair n ts (labels n ts) ws .weights | some why ↦ ws ]
 
-  abbrev pub coordinatesAt : Option ℕ → List ℤ
-  coordinatesAt o = elim o [ none ↦ forward n ts (labels n ts) (repair n ts (labels n ts) ws .weights) | some k ↦ bs ]
+  abbrev pub coordinatesAt : Option Refusal → List ℤ
+  coordinatesAt o = elim o [ none ↦ forward n ts (labels n ts) (repair n ts (labels n ts) ws .weights) | some why ↦ bs ]
 
   pub call-answer : repairCall n ts ws bs scratch .answer ≡ answerAt found
   unfolding repairCall
@@ -96,11 +90,9 @@ module _ (n : ℕ) (ts : List ℕ) (ws bs scratch : List ℤ) where
       let r = callRefusal-none n ts scratch (slice (length ws) (weightsLength n) ∷ slices) own e in
       (r .0, row2-cons (length ws) (weightsLength n) slices .0 (r .2) .0)
 
-  -- no row has the number 0
-  pub found-number : found ≢ some 0
-  unfolding callRefusal
-  found-number e =
+  -- The rows refuse with a number that is not 0, or with a vertex, and never with a count.
+  pub found-only : (why : Refusal) → found ≡ some why → FromRows why
+  found-only =
       let slices = slice (length ws) (weightsLength n) ∷ slice (length bs) (coordinatesLength n) ∷ [] in
-      refusal-number
-      (row 1 (λ _. row1 mostVertices n) ∷ row 2 (λ _. row2 (lent n ts scratch slices)) ∷ (meshRows n ts ++ (row 9 (λ _. row9 ws) ∷ [])))
-      (omega arith) e
+      callRefusal-only n ts scratch slices (row 9 (λ _. row9 ws) ∷ []) FromRows (λ k h. h) (λ v. tt) (λ v. tt)
+      (only-row FromRows 9 (λ _. row9 ws) [] (omega arith) (only-none FromRows))

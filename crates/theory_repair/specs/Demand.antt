@@ -17,18 +17,18 @@ use Rattle.definitions.specs.Labels.{labels, outer}
 use Rattle.definitions.specs.Forward.{weight, forward}
 use Rattle.definitions.specs.Backward.{coordinate, backward}
 use Rattle.definitions.specs.Repair.{limit, bad, raise, addTo, finished, stopped, outOfFuel, repair, changed}
-use Rattle.definitions.specs.Answers.{done, refused, numbered, stoppedAfter, row}
+use Rattle.definitions.specs.Answers.{done, refused, numbered, stoppedAfter, Refusal, row}
 use Rattle.definitions.specs.Refusals.{Accepted, AcceptedWeights, AcceptedCoordinates, slice, row9, row10, row11, row12, Repaired, repairAnswer, repairCall}
 use Rattle.laws.specs.Lists.{_∈_}
 use Rattle.laws.specs.Counting.{Distinct}
-use Rattle.theory_sphere.specs.FirstRefusal.{refusal-cons, callRefusal-none}
+use Rattle.theory_sphere.specs.FirstRefusal.{row-none, refusal-cons, callRefusal-none}
 use Rattle.theory_sphere.specs.Accept.{accepted-sphere}
 use Rattle.theory_realizer.specs.Units.{Units}
 use Rattle.theory_repair.specs.Coordinates.{inner-in, in-inner, weight-in, length-forward, coordinates-total}
 use Rattle.theory_repair.specs.Bounds.{outer-total, row10-forward, row11-forward, row12-forward}
 use Rattle.theory_repair.specs.Areas.{positive-good}
 use Rattle.theory_repair.specs.Additive.{plus, forward-plus}
-use Rattle.theory_repair.specs.Calls.{found, answerAt, call-answer, call-weights, call-coordinates, found-accepted, found-number, toAnswer}
+use Rattle.theory_repair.specs.Calls.{found, answerAt, call-answer, call-weights, call-coordinates, found-accepted, found-only, toAnswer}
 use Rattle.theory_repair.specs.Calls.{toAnswer-zero, finished-well, stopped-early}
 use Rattle.theory_repair.specs.Repairs.{Outcome, few, repair-outcome}
 
@@ -137,12 +137,12 @@ went-on : (n : ℕ) (ts : List ℕ) (ws bs scratch : List ℤ) (count : ℕ) →
     found n ts ws bs scratch ≡ none
 went-on n ts ws bs scratch count h = go (found n ts ws bs scratch) refl (rw (call-answer n ts ws bs scratch) at h)
   where
-    go : (o : Option ℕ) → found n ts ws bs scratch ≡ o → (answerAt n ts ws bs scratch o ≡ done count)
+    go : (o : Option Refusal) → found n ts ws bs scratch ≡ o → (answerAt n ts ws bs scratch o ≡ done count)
         ⊎ (answerAt n ts ws bs scratch o ≡ refused (stoppedAfter count)) →
         found n ts ws bs scratch ≡ none
     go none e q = e
-    go (some k) e (inl q) = let z : _≡_ {A = ℕ} 0 1 = cc in absurd (omega arith)
-    go (some k) e (inr q) = let z : _≡_ {A = ℕ} 0 1 = cc in absurd (omega arith)
+    go (some why) e (inl q) = let z : _≡_ {A = ℕ} 0 1 = cc in absurd (omega arith)
+    go (some why) e (inr q) = let z : why ≡ stoppedAfter count = cc in absurd (found-only n ts ws bs scratch (stoppedAfter count) (e ∙ ap some z))
 
 module _ (n : ℕ) (ts : List ℕ) (units : Accepted n ts → Units n ts (labels n ts)) (ws bs scratch : List ℤ) where
   module _ (count : ℕ) (told-it : Counts (repairCall n ts ws bs scratch) count) where
@@ -159,7 +159,8 @@ module _ (n : ℕ) (ts : List ℕ) (units : Accepted n ts → Units n ts (labels
     light : row9 ws ≡ false
     light =
         let slices = slice (length ws) (weightsLength n) ∷ slice (length bs) (coordinatesLength n) ∷ [] in
-        refusal-cons 9 (λ _. row9 ws) [] (callRefusal-none n ts scratch slices (row 9 (λ _. row9 ws) ∷ []) on .3) .0
+        let own = row 9 (λ _. row9 ws) in
+        row-none 9 (λ _. row9 ws) (refusal-cons own [] (callRefusal-none n ts scratch slices (own ∷ []) on .3) .0)
 
     pub count-weights : AcceptedWeights n (repairCall n ts ws bs scratch .weights)
     count-weights =
@@ -231,9 +232,9 @@ module _ (n : ℕ) (ts : List ℕ) (units : Accepted n ts → Units n ts (labels
   pub never-out-of-fuel : repairCall n ts ws bs scratch .answer ≢ refused (numbered 0)
   never-out-of-fuel h = go (found n ts ws bs scratch) refl (sym (call-answer n ts ws bs scratch) ∙ h)
     where
-      go : (o : Option ℕ) → found n ts ws bs scratch ≡ o → answerAt n ts ws bs scratch o ≡ refused (numbered 0) → ⊥
+      go : (o : Option Refusal) → found n ts ws bs scratch ≡ o → answerAt n ts ws bs scratch o ≡ refused (numbered 0) → ⊥
       go none e q =
           let r = found-accepted n ts ws bs scratch e in
           terminates n ts (labels n ts) (r .0) (units (r .0)) ws (r .1)
           (toAnswer-zero (repair n ts (labels n ts) ws .ending) (length (repair n ts (labels n ts) ws .raises)) q)
-      go (some k) e q = let z : some k ≡ some 0 = cc in found-number n ts ws bs scratch (e ∙ z)
+      go (some why) e q = let z : why ≡ numbered 0 = cc in omega (arith, found-only n ts ws bs scratch (numbered 0) (e ∙ ap some z))

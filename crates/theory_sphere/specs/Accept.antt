@@ -16,9 +16,10 @@ use Rattle.laws.specs.Counting.{Distinct}
 use Rattle.laws.specs.Orbits.{Period}
 use Rattle.theory_sphere.specs.Sphere.{Sphere, rotate}
 use Rattle.theory_sphere.specs.Darts.{prev-below}
-use Rattle.theory_sphere.specs.Rows.{outgoing-in, in-outgoing, row7-means}
+use Rattle.theory_sphere.specs.Rows.{outgoing-in, in-outgoing}
 use Rattle.theory_sphere.specs.Sides.{sphere-sides, rotate-below, rotate-org, sides, sides-opp, sides-rows, rot-below}
 use Rattle.theory_sphere.specs.Rings.{Rotating, rotate-rot, rotations-in, ring-means, rotations-period, rotations-all, rotations-distinct}
+use Rattle.theory_sphere.specs.Vertices.{row7or25-means}
 use Rattle.theory_sphere.specs.Components.{row8-joined}
 use Rattle.theory_sphere.specs.FirstRefusal.{Clean, refusal-clean, clean-refusal}
 
@@ -56,7 +57,7 @@ module _ (n : ℕ) (ts : List ℕ) where
       let w = whole-triangles n ts (a .1) in
       let c = refusal-clean n ts (a .2) in
       let S = sides ts T (w .1) n (c .clean3) (c .clean4) (c .clean5) (c .clean6) in
-      let at : (v : ℕ) → v < n → Rotating ts v = λ v h. ring-means ts T (w .1) n S v .0 (row7-means ts n .0 (c .clean7) v h) in
+      let at : (v : ℕ) → v < n → Rotating ts v = λ v h. ring-means ts T (w .1) n S v .0 (row7or25-means ts n .0 (c .clean7) v h) in
       record {
         least = range .0;
         size = omega arith;
@@ -108,7 +109,7 @@ module _ (n : ℕ) (ts : List ℕ) where
           clean4 = r .1;
           clean5 = r .2;
           clean6 = r .3;
-          clean7 = row7-means ts n .1 (λ v h. ring-means ts T whole n S v .1 (turning v h));
+          clean7 = row7or25-means ts n .1 (λ v h. ring-means ts T whole n S v .1 (turning v h));
           clean8 = row8-joined ts .1 (λ t h. chain-same (λ d. tri (opp ts d)) (λ d l. ap tri (sym (sphere-opp d l))) (s .joined t h));
         }
 
@@ -121,7 +122,7 @@ module _ (n : ℕ) (ts : List ℕ) where
 
 module _ (n : ℕ) (ts : List ℕ) (s : Sphere n (length ts / 3) (org ts) (opp ts)) (whole : length ts ≡ 3 * (length ts / 3)) where
   pub sphere-ring : (v : ℕ) → v < n → ring ts (outgoing ts v) ≡ true
-  sphere-ring = row7-means ts n .0 (sphere-clean n ts (opp ts) s whole .clean7)
+  sphere-ring = row7or25-means ts n .0 (sphere-clean n ts (opp ts) s whole .clean7)
 
   module _ (d : ℕ) (h : d < 3 * (length ts / 3)) where
     mine : d ∈ outgoing ts (org ts d)

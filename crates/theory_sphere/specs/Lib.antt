@@ -4,7 +4,10 @@ pub mod Darts
 pub mod Rows
 pub mod Sides
 pub mod Rings
+pub mod Vertices
 pub mod Components
 pub mod FirstRefusal
+pub mod VertexRefusals
+pub mod AsBefore
 pub mod Accept
 pub mod Rotations

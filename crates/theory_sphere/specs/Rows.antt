@@ -1,4 +1,4 @@
--- What rows 3 to 8 of the table of refusals say, each as a statement about darts. Assumes nothing.
+-- What rows 3 to 6 and 8 of the table of refusals say, each as a statement about darts. (`Vertices` has 7 and 25.) Assumes nothing.
 use Prim.Native.Nat.{ℕ, _/_, _≤_, _<_}
 use mathlib.Core.Path.{_≡_, sym, ap, _∙_}
 use mathlib.Core.Logic.{_≢_, _↔_}
@@ -9,8 +9,8 @@ use native.Mathlib.Decide.{decLt, ℕ-discrete}
 use lib.Dec.{leb, eqb}
 use lib.ListN.{length, getD}
 use borrow.Author.Tests.{leb-false, lt-leb, eqb-true, eqb-false, eq-eqb, ne-eqb, not-true, not-false}
-use Rattle.definitions.specs.Lists.{upto, any, elem}
-use Rattle.definitions.specs.Mesh.{org, tip, darts, triangles, same, opposite, opp, outgoing, row3, row4, row5, row6, row7, row8, ring, component}
+use Rattle.definitions.specs.Lists.{any, elem}
+use Rattle.definitions.specs.Mesh.{org, tip, darts, triangles, same, opposite, opp, outgoing, row3, row4, row5, row6, row8, component}
 use Rattle.definitions.specs.Labels.{dartTo}
 use Rattle.laws.specs.Lists.{_∈_, clash, untrue, unfalse, and-both, any-true, true-any, any-false, false-any, in-getD, getD-in, in-upto, upto-in}
 use Rattle.laws.specs.Lists.{filter-in, in-filter, firstOr-in, firstOr-none, firstOr-only, elem-true, true-elem}
@@ -149,14 +149,6 @@ module _ (ts : List ℕ) where
         let r = f d (darts-in m) in ap not (true-any (opposite ts d) (in-darts (r .0) (r .1)) (true-opposite d (r .0) (r .2) (r .3)))),
   )
 
-  -- 7: there is one ring at each vertex
-  pub row7-means : (n : ℕ) → (row7 ts n ≡ false) ↔ ((v : ℕ) → v < n → ring ts (outgoing ts v) ≡ true)
-  unfolding row7
-  row7-means n = (
-    λ t v h. not-false (ring ts (outgoing ts v)) (any-false (λ v. not (ring ts (outgoing ts v))) (upto n) t (in-upto n v h)),
-    λ f. false-any (λ v. not (ring ts (outgoing ts v))) (upto n) (λ v m. ap not (f v (upto-in n m))),
-  )
-
   -- 8: the outer triangle's piece has every triangle
   pub row8-means : (row8 ts ≡ false) ↔ ((t : ℕ) → t < length ts / 3 → t ∈ component ts)
   unfolding row8 triangles
@@ -180,9 +172,6 @@ module _ (ts : List ℕ) where
   pub row6-finds : (d : ℕ) → d < length ts → ((e : ℕ) → e < length ts → org ts e ≡ tip ts d → tip ts e ≡ org ts d → ⊥) →
       row6 ts ≡ true
   row6-finds d h n = unfalse (row6 ts) (λ t. let r = row6-means .0 t d h in n (r .0) (r .1) (r .2) (r .3))
-
-  pub row7-finds : (n v : ℕ) → v < n → ring ts (outgoing ts v) ≡ false → row7 ts n ≡ true
-  row7-finds n v h q = unfalse (row7 ts n) (λ t. clash (row7-means n .0 t v h) q)
 
   -- for row 5 it is enough to look at pairs in order
   pub once-ordered : ((d e : ℕ) → d < e → e < length ts → org ts d ≡ org ts e → tip ts d ≡ tip ts e → ⊥) → Once

@@ -1,36 +1,43 @@
-//! The slow mesh check: rows 3 to 8, each by its definition.
+//! The slow mesh check: rows 3 to 8 and 25, each by its definition.
 
 use super::{sides, triples, Side, Triple};
+use crate::Refusal;
 use std::collections::{BTreeMap, BTreeSet};
 
-/// The first of rows 3 to 8 that refuses a mesh of fitting length.
-pub fn refusal(n: usize, triangles: &[u16]) -> Option<u8> {
+/// The refusal of a mesh of fitting length, by rows 3 to 8 with 25 at the place
+/// of 7.
+pub fn refusal(n: usize, triangles: &[u16]) -> Option<Refusal> {
     let all = triples(triangles);
     if all.iter().flatten().any(|&v| v >= n) {
-        return Some(3);
+        return Some(Refusal::plain(3));
     }
     let vertices = |t: &Triple| t.iter().collect::<BTreeSet<_>>().len();
     if all.iter().any(|t| vertices(t) < 3) {
-        return Some(4);
+        return Some(Refusal::plain(4));
     }
     let list: Vec<Side> = all.iter().flat_map(sides).collect();
     let set: BTreeSet<Side> = list.iter().copied().collect();
     if set.len() < list.len() {
-        return Some(5);
+        return Some(Refusal::plain(5));
     }
     if list.iter().any(|&(a, b)| !set.contains(&(b, a))) {
-        return Some(6);
+        return Some(Refusal::plain(6));
     }
-    if !(0..n).all(|v| one_ring(&all, v)) {
-        return Some(7);
+    let stray: BTreeSet<usize> = (0..n)
+        .filter(|v| !all.iter().flatten().any(|u| u == v))
+        .collect();
+    let pinched: BTreeSet<usize> = (0..n).filter(|&v| several_rings(&all, v)).collect();
+    let lowest = stray.union(&pinched).min().copied();
+    if let Some(v) = lowest {
+        return Some(Refusal::at(if stray.contains(&v) { 25 } else { 7 }, v));
     }
-    (!one_piece(&all)).then_some(8)
+    (!one_piece(&all)).then_some(Refusal::plain(8))
 }
 
-/// Whether the triangles at a vertex make one ring. Every side has its
+/// Whether the triangles at a vertex make several rings. Every side has its
 /// opposite.
-fn one_ring(all: &[Triple], v: usize) -> bool {
-    // From a to b for each triangle (v, a, b): one ring is one cycle.
+fn several_rings(all: &[Triple], v: usize) -> bool {
+    // From a to b for each triangle (v, a, b): a ring is a cycle.
     let mut turn = BTreeMap::new();
     for t in all {
         if let Some(i) = t.iter().position(|&x| x == v) {
@@ -45,7 +52,7 @@ fn one_ring(all: &[Triple], v: usize) -> bool {
     while ring.insert(a) {
         a = turn[&a];
     }
-    ring.len() == turn.len()
+    ring.len() < turn.len()
 }
 
 /// Whether every triangle is reached from the first by common vertices.

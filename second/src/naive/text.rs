@@ -72,8 +72,8 @@ pub fn packmap(text: &[u8]) -> String {
         Verdict::Refused(number, line) => return refused(number, line),
         Verdict::Job(n, triangles, weights) => (n, triangles, weights),
     };
-    if let Some(number) = refusal(n, &triangles) {
-        return refused(number.into(), 0);
+    if let Some(found) = refusal(n, &triangles) {
+        return refused(found.number.into(), 0);
     }
     if too_heavy(&weights) {
         return refused(9, 0);

@@ -1,12 +1,12 @@
-//! Tests of the mesh check: rows 1 to 8, every mesh on 3 vertices, changed
-//! spheres and damaged meshes. What is wanted comes from document 01, from the
-//! slow check, or from the row that a mesh was damaged for. The other calls on a
-//! mesh have to refuse a damaged one alike.
+//! Tests of the mesh check: rows 1 to 8 and 25, every mesh on 3 vertices,
+//! changed spheres and damaged meshes. What is wanted comes from the papers, from
+//! the slow check, or from the way a mesh was damaged. The other calls on a mesh
+//! have to refuse a damaged one alike.
 
 use super::{refused, sizes, Trials, WrongLength, FILL, WRONG_N};
 use crate::shells::{ROWS, TETRA};
 use crate::spheres::sphere;
-use crate::{damage, mesh, naive, Answer, Work};
+use crate::{damage, mesh, naive, Answer, Refusal, Work};
 
 impl Trials {
     pub(super) fn mesh(&mut self, n: usize, triangles: &[u16]) -> Answer<()> {
@@ -18,29 +18,29 @@ impl Trials {
 
     /// Every call on a mesh refuses this one so, whatever weights or
     /// coordinates come with it.
-    fn mesh_refused(&mut self, n: usize, t: &[u16], number: u8) {
+    fn mesh_refused(&mut self, n: usize, t: &[u16], refusal: Refusal) {
         let heavy = vec![i64::MIN; 2 * n - 5];
         let got = self.mesh(n, t);
-        self.equal(got, refused(number), "mesh check");
+        self.equal(got, Err(refusal), "mesh check");
         let got = self.labels(n, t);
-        self.equal(got, refused(number), "labels, by the mesh check");
+        self.equal(got, Err(refusal), "labels, by the mesh check");
         let got = self.forward(n, t, &heavy);
-        self.equal(got, refused(number), "forward, by the mesh check");
+        self.equal(got, Err(refusal), "forward, by the mesh check");
         let got = self.backward(n, t, &vec![i64::MAX; 3 * n]);
-        self.equal(got, refused(number), "backward, by the mesh check");
+        self.equal(got, Err(refusal), "backward, by the mesh check");
         let (got, ..) = self.repair(n, t, &heavy);
-        self.equal(got, refused(number), "repair, by the mesh check");
+        self.equal(got, Err(refusal), "repair, by the mesh check");
     }
 }
 
-/// Row 1, and the meshes of rows 3 to 8.
+/// Row 1, and the meshes of rows 3 to 8 and 25.
 pub(super) fn table(trials: &mut Trials) {
     for n in WRONG_N {
         let got = trials.mesh(n, &TETRA);
         trials.equal(got, refused(1), "1, mesh check");
     }
-    for (number, n, t) in ROWS {
-        trials.mesh_refused(n, t, number);
+    for (refusal, n, t) in ROWS {
+        trials.mesh_refused(n, t, refusal);
     }
 }
 
@@ -58,7 +58,7 @@ pub(super) fn lengths(trials: &mut Trials) {
 
 /// The mesh check against the slow one.
 fn by_slow_check(trials: &mut Trials, n: usize, t: &[u16], what: &str) {
-    let wanted = naive::refusal(n, t).map_or(Ok(()), refused);
+    let wanted = naive::refusal(n, t).map_or(Ok(()), Err);
     let got = trials.mesh(n, t);
     trials.equal(got, wanted, what);
 }
@@ -98,21 +98,21 @@ pub(super) fn changed(trials: &mut Trials) {
     }
 }
 
-/// Spheres, and meshes damaged for each of rows 3 to 8.
+/// Spheres, and meshes damaged for each of rows 3 to 8 and 25.
 pub(super) fn damaged(trials: &mut Trials) {
     for round in 0..trials.rounds {
         let n = trials.size_in(round, 4096);
         let t = sphere(&mut trials.rng, n);
         let got = trials.mesh(n, &t);
         trials.equal(got, Ok(()), "a sphere");
-        for number in 3..=8 {
+        for number in damage::MESH_NUMBERS {
             let bad = damage::mesh(&mut trials.rng, number, n);
             if bad.n <= 60 {
                 let slow = naive::refusal(bad.n, &bad.triangles);
-                trials.equal(slow, Some(number), "damaged mesh, slow check");
+                trials.equal(slow, Some(bad.refusal), "damaged mesh, slow check");
             }
             if bad.n <= 4096 {
-                trials.mesh_refused(bad.n, &bad.triangles, number);
+                trials.mesh_refused(bad.n, &bad.triangles, bad.refusal);
             }
         }
     }

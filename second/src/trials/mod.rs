@@ -12,7 +12,7 @@ mod snap;
 mod text;
 
 use crate::spheres::Rng;
-use crate::{Answer, Refusal, Sizes, Work};
+use crate::{Answer, Refusal, Sizes, Work, NUMBERS};
 
 /// What lent buffers hold before a call.
 const FILL: i64 = 0x5a5a_1234_5a5a;
@@ -94,7 +94,7 @@ struct Trials {
     passed: u64,
     failed: u64,
     /// How often each refusal was met.
-    hits: [u64; 20],
+    hits: [u64; 26],
 }
 
 /// Runs every group; true where nothing failed. `rounds` scales the random
@@ -106,7 +106,7 @@ pub fn run(rounds: usize, seed: u64) -> bool {
         rounds,
         passed: 0,
         failed: 0,
-        hits: [0; 20],
+        hits: [0; 26],
     };
     for (name, tests) in GROUPS {
         let (passed, failed) = (trials.passed, trials.failed);
@@ -131,12 +131,12 @@ fn every_group_passes() {
 }
 
 fn all_met(trials: &mut Trials) {
-    for number in 1..=19 {
-        let met = trials.hits[number];
+    for number in NUMBERS {
+        let met = trials.hits[usize::from(number)];
         trials.check(met > 0, || format!("refusal {number} was never met"));
     }
-    let met = (1..=19).map(|i| format!("{i}: {}", trials.hits[i]));
-    println!("  refusals met: {}", met.collect::<Vec<_>>().join(", "));
+    let met = NUMBERS.map(|i| format!("{i}: {}", trials.hits[usize::from(i)]));
+    println!("  refusals met: {}", met.join(", "));
 }
 
 impl Trials {

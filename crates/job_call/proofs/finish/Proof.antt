@@ -37,6 +37,7 @@ finish-spec =
     (λ c. search needs)
     list-requires
     (λ c. search needs)
+    (λ c κs. search needs)
     (λ c. search needs)
     (λ c. search needs)
     (λ c. search needs)

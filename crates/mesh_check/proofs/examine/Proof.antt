@@ -1,5 +1,5 @@
 -- `mesh_check::examine` meets its contract: each way out is what its row has found. Assumes nothing.
-use Rattle.mesh_check.specs.Stages.{has-marks, refuse7, refuse8, accept, said-refused}
+use Rattle.mesh_check.specs.Stages.{has-marks, refuse7or25, refuse8, accept, said-refused}
 use native.Mathlib.Omega.{arith}
 use borrow.Author.Needs.{needs}
 use Rattle.mesh_check.proofs.examine.Statement.{statement}
@@ -9,7 +9,7 @@ returns : tie.Need-returns
 returns c = search said-refused
 
 returns-2 : tie.Need-returns-2
-returns-2 c = search refuse7
+returns-2 c = search refuse7or25
 
 disconnected-requires : tie.Need-disconnected-requires
 disconnected-requires c κs = let start : tie.Start = search in has-marks _ _ _ (start .pre) (omega arith)
@@ -30,6 +30,8 @@ examine-spec =
     (λ c. search needs)
     returns
     (λ c κs. search needs)
+    (λ c. search needs)
+    (λ c. search needs)
     (λ c. search needs)
     returns-2
     disconnected-requires
