@@ -34,7 +34,7 @@ static size_t exact(enum kind kind, size_t n) {
     case SHARES:
         return 2 * n;
     case SCRATCH:
-        return 24 * n;
+        return 10 * n;
     default:
         return 1;
     }
@@ -112,8 +112,24 @@ static const struct call SNAP = {
 
 /* --- One call, and all calls of a trial --- */
 
-enum change { AS_DUE, LESS, MORE, EMPTY };
-static const char *const CHANGE[] = {"exact", "one less", "one more", "0"};
+/* BEFORE is for scratch alone: 24n, its length before C-20. */
+enum change { AS_DUE, LESS, MORE, EMPTY, BEFORE };
+static const char *const CHANGE[] = {"exact", "one less", "one more", "0", "24n"};
+
+static size_t changed(enum change change, size_t due, size_t n) {
+    switch (change) {
+    case LESS:
+        return due - 1;
+    case MORE:
+        return due + 1;
+    case EMPTY:
+        return 0;
+    case BEFORE:
+        return 24 * n;
+    default:
+        return due;
+    }
+}
 
 static unsigned calls, passed, failed;
 
@@ -155,7 +171,7 @@ static bool once(const struct trial *t, enum side side, const enum change *chang
     for (int i = 0; i < call->parts; i++) {
         enum kind kind = call->part[i].kind;
         size_t due = exact(kind, t->sized);
-        len[i] = change[i] == EMPTY ? 0 : change[i] == LESS ? due - 1 : change[i] == MORE ? due + 1 : due;
+        len[i] = changed(change[i], due, t->sized);
         if (change[i] != AS_DUE && number != 1)
             number = 2;
         lent[i] = lend(i, side, len[i] * item(kind), t->before[i], t->before[i] ? due * item(kind) : 0);
@@ -206,9 +222,11 @@ static void run(const struct trial *t) {
             good &= once(t, side, change);
         while (small && next_change(t->call, change));
         for (int i = 0; i < t->call->parts; i++) {
-            if (t->call->part[i].kind == ONE)
+            enum kind kind = t->call->part[i].kind;
+            enum change last = kind == SCRATCH ? BEFORE : EMPTY;
+            if (kind == ONE)
                 continue;
-            for (change[i] = small ? EMPTY : LESS; change[i] <= EMPTY; change[i]++)
+            for (change[i] = small ? EMPTY : LESS; change[i] <= last; change[i]++)
                 good &= once(t, side, change);
             change[i] = AS_DUE;
         }

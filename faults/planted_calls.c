@@ -68,6 +68,8 @@ uint64_t __wrap_packmap_backward(MESH, const int64_t *b, size_t b_len, int64_t *
 
 uint64_t __real_packmap_repair(MESH, int64_t *weights, size_t weights_len, int64_t *b, size_t b_len, SCRATCH);
 uint64_t __wrap_packmap_repair(MESH, int64_t *weights, size_t weights_len, int64_t *b, size_t b_len, SCRATCH) {
+    if (planted("24n words are let through") && scratch_len == 24 * n)
+        scratch_len = 10 * n;
     uint64_t number = __real_packmap_repair(GIVEN_MESH, weights, weights_len, b, b_len, GIVEN_SCRATCH);
     if (planted("counts the raise that 13 refuses") && number == 13)
         ++*carried;

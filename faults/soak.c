@@ -85,11 +85,11 @@ static const struct step {
 enum { STEP_COUNT = sizeof STEPS / sizeof *STEPS };
 
 static uint64_t make(const struct step *s) {
-    static int64_t scratch[24 * SMALL], weights[2 * SMALL - 5], coordinates[3 * SMALL];
+    static int64_t scratch[10 * SMALL], weights[2 * SMALL - 5], coordinates[3 * SMALL];
     static uint8_t labels[3 * (2 * SMALL - 5)], listing[LISTING];
     uint64_t carried;
     double outside;
-    const size_t n = s->n, t = 3 * (2 * n - 4), w = 2 * n - 5, b = 3 * n, left = 24 * n - s->cut;
+    const size_t n = s->n, t = 3 * (2 * n - 4), w = 2 * n - 5, b = 3 * n, left = 10 * n - s->cut;
     switch (s->call) {
     case CHECK:
         return packmap_mesh_check(n, s->triangles, t, scratch, left, &carried);

@@ -21,13 +21,13 @@ static int64_t scratch_of_3[PACKMAP_SCRATCH(3)];
 static void lengths(void) {
     int small = 3;
     uint16_t large = PACKMAP_MOST_VERTICES;
-    HOLDS(sizeof scratch_of_3 / sizeof *scratch_of_3 == 72);
+    HOLDS(sizeof scratch_of_3 / sizeof *scratch_of_3 == 30);
     HOLDS(PACKMAP_TRIANGLES(small) == 6 && PACKMAP_TRIANGLES(large) == 24564);
     HOLDS(PACKMAP_LABELS(small) == 3 && PACKMAP_LABELS(large) == 24561);
     HOLDS(PACKMAP_WEIGHTS(small) == 1 && PACKMAP_WEIGHTS(large) == 8187);
     HOLDS(PACKMAP_COORDINATES(small) == 9 && PACKMAP_COORDINATES(large) == 12288);
     HOLDS(PACKMAP_SHARES(small) == 6 && PACKMAP_SHARES(large) == 8192);
-    HOLDS(PACKMAP_SCRATCH(large) == 98304);
+    HOLDS(PACKMAP_SCRATCH(large) == 40960);
     HOLDS(PACKMAP_TRIANGLES(2 + 1) == 6);
 }
 

@@ -52,11 +52,11 @@ extern "C" {
 #define PACKMAP_WEIGHTS(n) (2 * (size_t)(n) - 5)
 #define PACKMAP_COORDINATES(n) (3 * (size_t)(n))
 #define PACKMAP_SHARES(n) (2 * (size_t)(n))
-#define PACKMAP_SCRATCH(n) (24 * (size_t)(n))
+#define PACKMAP_SCRATCH(n) (10 * (size_t)(n))
 
 /* Bytes of stack. */
 #define PACKMAP_STACK 2048
-#define PACKMAP_JOB_STACK 65536
+#define PACKMAP_JOB_STACK 36864
 
 /* ---- refusals */
 

@@ -1,7 +1,7 @@
 //! Labels on random spheres from 3 to 4,096 vertices, on damaged meshes, and
 //! with wrong lengths.
 
-use crate::meshes::{stale, stale_bytes, vertices};
+use crate::meshes::{stale_bytes, stale_scratch, vertices};
 use crate::tally::{told, Tally};
 use second::spheres::{self, Rng};
 use second::{damage, labels, Work};
@@ -9,7 +9,7 @@ use second::{damage, labels, Work};
 fn one(tally: &mut Tally, work: &mut Work, n: usize, triangles: &[u16], cut: usize) {
     let len = (6 * n).saturating_sub(15 + cut);
     let (mut ours, mut theirs) = (stale_bytes(len), stale_bytes(len));
-    let (mut scratch, mut other) = (stale(24 * n), stale(24 * n));
+    let (mut scratch, mut other) = (stale_scratch(n), stale_scratch(n));
     let answer = told(packmap::labels(n, triangles, &mut ours, &mut scratch));
     let wanted = labels::labels(work, n, triangles, &mut theirs, &mut other);
     let same = answer == wanted && ours == theirs && scratch == other;

@@ -1,7 +1,7 @@
 //! Forward and backward on random spheres, with weights and coordinates of
 //! every kind, at the limits too, and with refused ones.
 
-use crate::meshes::{stale, vertices};
+use crate::meshes::{stale, stale_scratch, vertices};
 use crate::tally::{told, Tally};
 use second::spheres::{self, Rng};
 use second::{damage, maps, Sizes, Work};
@@ -17,7 +17,7 @@ impl Left {
     fn lent(len: usize, n: usize) -> Left {
         Left {
             to: stale(len),
-            scratch: stale(24 * n),
+            scratch: stale_scratch(n),
         }
     }
 }

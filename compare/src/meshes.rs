@@ -19,6 +19,11 @@ pub fn stale(len: usize) -> Vec<i64> {
     (0..len as i64).map(|i| i * 0x9e37_79b9 - 5).collect()
 }
 
+/// Scratch for n vertices, with something in it.
+pub fn stale_scratch(n: usize) -> Vec<i64> {
+    stale(packmap::scratch_len(n))
+}
+
 /// Bytes that a lent slice may hold.
 pub fn stale_bytes(len: usize) -> Vec<u8> {
     (0..len).map(|i| (i * 7 + 3) as u8).collect()
@@ -46,7 +51,13 @@ pub fn run(count: usize, seed: u64) -> Tally {
         } else {
             let number = damage::MESH_NUMBERS[rng.below(7)];
             let bad = damage::mesh(&mut rng, number, n);
-            one(&mut tally, &mut work, bad.n, &bad.triangles, 24 * bad.n);
+            one(
+                &mut tally,
+                &mut work,
+                bad.n,
+                &bad.triangles,
+                packmap::scratch_len(bad.n),
+            );
             continue;
         };
         one(&mut tally, &mut work, n, &triangles, whole);
@@ -66,6 +77,7 @@ pub fn run(count: usize, seed: u64) -> Tally {
                 &triangles,
                 whole,
             );
+            one(&mut tally, &mut work, n, &triangles, 24 * n);
         }
     }
     tally

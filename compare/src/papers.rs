@@ -1,13 +1,13 @@
 //! Document 01's checked shells through the proved calls: P1 to P5, with the
 //! paper's own numbers.
 
-use crate::meshes::stale;
+use crate::meshes::stale_scratch;
 use crate::tally::{told, Tally};
 use second::shells::{FIVE, PAIR, TETRA};
 
 fn labels(tally: &mut Tally, n: usize, mesh: &[u16], wanted: &[u8]) {
     let mut ours = vec![9; wanted.len()];
-    let mut scratch = stale(24 * n);
+    let mut scratch = stale_scratch(n);
     let answer = told(packmap::labels(n, mesh, &mut ours, &mut scratch));
     let same = answer.is_ok() && ours == wanted && scratch.iter().all(|&x| x == 0);
     tally.count(answer, same, || format!("labels {ours:?}"));
@@ -15,7 +15,7 @@ fn labels(tally: &mut Tally, n: usize, mesh: &[u16], wanted: &[u8]) {
 
 /// Weights to coordinates and back.
 fn maps(tally: &mut Tally, n: usize, mesh: &[u16], weights: &[i64], wanted: &[i64]) {
-    let mut scratch = stale(24 * n);
+    let mut scratch = stale_scratch(n);
     let mut there = vec![7; wanted.len()];
     let answer = told(packmap::forward(n, mesh, weights, &mut there, &mut scratch));
     tally.count(answer, answer.is_ok() && there == wanted, || {

@@ -2,7 +2,7 @@
 //! the limit, refused by 9, and stopped by 13; and P6 to P8 with row 13's
 //! example, with the paper's own numbers.
 
-use crate::meshes::{stale, vertices};
+use crate::meshes::{stale, stale_scratch, vertices};
 use crate::tally::{told, Tally};
 use second::shells::TETRA;
 use second::spheres::{self, Rng};
@@ -22,7 +22,7 @@ fn raised(
 fn one(tally: &mut Tally, work: &mut Work, n: usize, mesh: &[u16], weights: &[i64]) {
     let (mut ours, mut theirs) = (weights.to_vec(), weights.to_vec());
     let (mut there, mut other) = (stale(3 * n), stale(3 * n));
-    let (mut scratch, mut spare) = (stale(24 * n), stale(24 * n));
+    let (mut scratch, mut spare) = (stale_scratch(n), stale_scratch(n));
     let answer = raised(n, mesh, &mut ours, &mut there, &mut scratch);
     let wanted = repair::repair(work, n, mesh, &mut theirs, &mut other, &mut spare);
     let buffers = ours == theirs && there == other && scratch == spare;
@@ -35,7 +35,7 @@ fn one(tally: &mut Tally, work: &mut Work, n: usize, mesh: &[u16], weights: &[i6
 fn paper(tally: &mut Tally, weights: [i64; 3], wanted: Answer<usize>, left: [i64; 3]) {
     let mut ours = weights;
     let mut there = stale(12);
-    let answer = raised(4, &TETRA, &mut ours, &mut there, &mut stale(96));
+    let answer = raised(4, &TETRA, &mut ours, &mut there, &mut stale_scratch(4));
     let total: i64 = left.iter().sum();
     let places = [
         total, 0, 0, 0, total, 0, 0, 0, total, left[1], left[0], left[2],

@@ -20,7 +20,7 @@ pub const LIMIT: i64 = 1_073_741_823;
 pub const STACK: usize = 2048;
 
 /// Most bytes of stack that [`job`](crate::job) uses.
-pub const JOB_STACK: usize = 65_536;
+pub const JOB_STACK: usize = 36_864;
 
 /// Length of the triangles: `3(2n - 4)` vertex numbers; 0 for `n` below 3. Saturates.
 #[inline]
@@ -49,10 +49,10 @@ pub const fn coordinates_len(n: usize) -> usize {
     n.saturating_mul(3)
 }
 
-/// Length of the scratch: `24n`. Saturates.
+/// Length of the scratch: `10n`. Saturates.
 #[inline]
 pub const fn scratch_len(n: usize) -> usize {
-    n.saturating_mul(24)
+    n.saturating_mul(10)
 }
 
 /// Length of the drawn points: `2n`, x and y of each. Saturates.

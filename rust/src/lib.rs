@@ -63,7 +63,7 @@
 //! | weights | `2n - 5` | [`weights_len`] |
 //! | coordinates: b0, b1, b2 of each vertex | `3n` | [`coordinates_len`] |
 //! | drawn points: x, y of each | `2n` | [`points_len`] |
-//! | scratch | `24n` | [`scratch_len`] |
+//! | scratch | `10n` | [`scratch_len`] |
 //!
 //! Text and listing of [`job`] may have any length; [`JOB_BYTES`] is enough for both.
 //!

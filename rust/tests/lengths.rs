@@ -13,7 +13,7 @@ fn lengths_by_the_paper() {
         assert_eq!(labels_len(n), 3 * (2 * n - 5));
         assert_eq!(weights_len(n), 2 * n - 5);
         assert_eq!(coordinates_len(n), 3 * n);
-        assert_eq!(scratch_len(n), 24 * n);
+        assert_eq!(scratch_len(n), 10 * n);
         assert_eq!(points_len(n), 2 * n);
     }
 }
@@ -26,7 +26,7 @@ fn lengths_below_3_and_at_the_end() {
             assert_eq!(of(f, n), 0);
         }
         assert_eq!(coordinates_len(n), 3 * n);
-        assert_eq!(scratch_len(n), 24 * n);
+        assert_eq!(scratch_len(n), 10 * n);
         assert_eq!(points_len(n), 2 * n);
     }
     for f in [
@@ -74,8 +74,25 @@ const TRIANGLES: usize = 12;
 const LABELS: usize = 9;
 const WEIGHTS: usize = 3;
 const COORDINATES: usize = 12;
-const SCRATCH: usize = 96;
+const SCRATCH: usize = 40;
 const POINTS: usize = 8;
+
+/// 24 words a vertex, as before C-20, are too many in every call on a mesh.
+#[test]
+fn row_2_of_the_scratch_before() {
+    let mut labelled = stale_bytes(LABELS);
+    let (mut weights, mut coordinates) = (stale(WEIGHTS), stale(COORDINATES));
+    let mut scratch = stale(24 * 4);
+    let answers = [
+        check(4, &TETRA, &mut scratch),
+        labels(4, &TETRA, &mut labelled, &mut scratch),
+        forward(4, &TETRA, &weights, &mut coordinates, &mut scratch),
+        backward(4, &TETRA, &coordinates, &mut weights, &mut scratch),
+        repair(4, &TETRA, &mut weights, &mut coordinates, &mut scratch).map(|_| ()),
+    ];
+    assert_eq!(answers, [Err(Refusal::Length); 5]);
+    assert_eq!(scratch, stale(24 * 4));
+}
 
 #[test]
 fn row_2_of_check() {

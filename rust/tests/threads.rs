@@ -67,7 +67,7 @@ fn within_the_stack() {
     let n = 4096;
     let (triangles, shares) = (stack(n), vec![0.3; 2 * n]);
     let (mut weights, mut labels) = (signed(2 * n - 5, 1), stale_bytes(6 * n - 15));
-    let (mut b, mut scratch) = (stale(3 * n), stale(24 * n));
+    let (mut b, mut scratch) = (stale(3 * n), stale(10 * n));
     on_stack(packmap::STACK, move || {
         packmap::check(n, &triangles, &mut scratch).unwrap();
         packmap::labels(n, &triangles, &mut labels, &mut scratch).unwrap();

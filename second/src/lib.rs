@@ -93,7 +93,7 @@ impl Sizes {
             labels: 3 * (2 * n - 5),
             weights: 2 * n - 5,
             coordinates: 3 * n,
-            scratch: 24 * n,
+            scratch: 10 * n,
             points: 2 * n,
         })
     }

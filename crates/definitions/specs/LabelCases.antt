@@ -9,7 +9,7 @@ use Rattle.definitions.specs.Answers.{done}
 use Rattle.definitions.specs.Mesh.{darts, tip}
 use Rattle.definitions.specs.Labels.{Peeling, outer, start, nextRemovable, fan, step, peel, rim, points}
 use Rattle.definitions.specs.Refusals.{labelsCall}
-use Rattle.definitions.specs.CheckedShells.{Every, all-held, _and_, stale, lent, zeros}
+use Rattle.definitions.specs.CheckedShells.{Every, all-held, _and_, stale, lentScratch, clearedScratch}
 
 -- ---- the smallest-numbered first
 
@@ -29,17 +29,18 @@ six =
 
 abbrev SmallestFirst : Type 0
 SmallestFirst =
-    labelsCall 6 six (stale 21) (lent 144)
+    labelsCall 6 six (stale 21) (lentScratch 6)
     ≡ record {
       answer = done tt;
       labels = 0 ∷ 1 ∷ 2 ∷ 0 ∷ 1 ∷ 2 ∷ 0 ∷ 1 ∷ 2 ∷ 2 ∷ 0 ∷ 1 ∷ 2 ∷ 0 ∷ 1 ∷ 0 ∷ 1 ∷ 2 ∷ 0 ∷ 1 ∷ 2 ∷ [];
-      scratch = zeros 144;
+      scratch = clearedScratch 6;
     }
 
 -- v0 = 1 and v1 = 0 are smaller than v2 = 2, and both stay: 2 at v2, 0 at v0, 1 at v1.
 abbrev EndsStay : Type 0
 EndsStay =
-    labelsCall 3 (1 ∷ 2 ∷ 0 ∷ 2 ∷ 1 ∷ 0 ∷ []) (stale 3) (lent 72) ≡ record { answer = done tt; labels = 2 ∷ 0 ∷ 1 ∷ []; scratch = zeros 72 }
+    labelsCall 3 (1 ∷ 2 ∷ 0 ∷ 2 ∷ 1 ∷ 0 ∷ []) (stale 3) (lentScratch 3)
+    ≡ record { answer = done tt; labels = 2 ∷ 0 ∷ 1 ∷ []; scratch = clearedScratch 3 }
 
 -- ---- a shell with v0 = 5, v1 = 1 and v2 = 3: a long frontier
 
@@ -58,11 +59,11 @@ chain =
 
 abbrev LongFrontier : Type 0
 LongFrontier =
-    labelsCall 6 chain (stale 21) (lent 144)
+    labelsCall 6 chain (stale 21) (lentScratch 6)
     ≡ record {
       answer = done tt;
       labels = 0 ∷ 1 ∷ 2 ∷ 0 ∷ 1 ∷ 2 ∷ 0 ∷ 1 ∷ 2 ∷ 0 ∷ 1 ∷ 2 ∷ 2 ∷ 0 ∷ 1 ∷ 2 ∷ 0 ∷ 1 ∷ 2 ∷ 0 ∷ 1 ∷ [];
-      scratch = zeros 144;
+      scratch = clearedScratch 6;
     }
 
 -- ---- a shell with v0 = 4, v1 = 3 and v2 = 1
@@ -124,7 +125,7 @@ abbrev pub mixedLabels : List ℕ
 mixedLabels = 1 ∷ 2 ∷ 0 ∷ 0 ∷ 1 ∷ 2 ∷ 2 ∷ 0 ∷ 1 ∷ 0 ∷ 1 ∷ 2 ∷ 1 ∷ 2 ∷ 0 ∷ 0 ∷ 1 ∷ 2 ∷ 2 ∷ 0 ∷ 1 ∷ []
 
 abbrev Mixed : Type 0
-Mixed = labelsCall 6 mixed (stale 21) (lent 144) ≡ record { answer = done tt; labels = mixedLabels; scratch = zeros 144 }
+Mixed = labelsCall 6 mixed (stale 21) (lentScratch 6) ≡ record { answer = done tt; labels = mixedLabels; scratch = clearedScratch 6 }
 
 -- ---- colours
 

@@ -8,7 +8,7 @@ use lib.IntN.{ℤ, pos}
 use Rattle.definitions.specs.Answers.{done}
 use Rattle.definitions.specs.Forward.{path, walk}
 use Rattle.definitions.specs.Refusals.{forwardCall, backwardCall}
-use Rattle.definitions.specs.CheckedShells.{Every, all-held, _and_, lent, zeros, minus}
+use Rattle.definitions.specs.CheckedShells.{Every, all-held, _and_, lent, lentScratch, clearedScratch, minus}
 use Rattle.definitions.specs.LabelCases.{chain, mixed, mixedLabels}
 
 -- ---- paths and walks, as darts
@@ -46,11 +46,11 @@ placed N x0 y0 z0 x2 y2 z2 x5 y5 z5 =
 -- Vertex 2: b0 over 2-3 is 4 + 32, b1 over 2-4 is 1 + 2 + 8 + 16. Vertex 5: b0 over 2-5 and 2-3 is 2 + 16 + 4 + 32, b1 over 4-5 is 1.
 abbrev PowersOf2 : Type 0
 PowersOf2 =
-    forwardCall 6 mixed (pos 1 ∷ pos 2 ∷ pos 4 ∷ pos 8 ∷ pos 16 ∷ pos 32 ∷ pos 64 ∷ []) (lent 18) (lent 144)
+    forwardCall 6 mixed (pos 1 ∷ pos 2 ∷ pos 4 ∷ pos 8 ∷ pos 16 ∷ pos 32 ∷ pos 64 ∷ []) (lent 18) (lentScratch 6)
     ≡ record {
       answer = done tt;
       coordinates = placed (pos 127) (pos 4) (pos 3) (pos 120) (pos 36) (pos 27) (pos 64) (pos 54) (pos 1) (pos 72);
-      scratch = zeros 144;
+      scratch = clearedScratch 6;
     }
 
 -- The same weights. The colour-0 path of 4 has three sides, by 2 and 0 to v0; the colour-1 paths are single sides to v1. The sides that the walks cross: 0-5
@@ -58,7 +58,7 @@ PowersOf2 =
 -- vertex 2 has 4 + 8 + 16 and 2 + 1, vertex 4 has 8 and 4 + 2 + 1.
 abbrev LongPath : Type 0
 LongPath =
-    forwardCall 6 chain (pos 1 ∷ pos 2 ∷ pos 4 ∷ pos 8 ∷ pos 16 ∷ pos 32 ∷ pos 64 ∷ []) (lent 18) (lent 144)
+    forwardCall 6 chain (pos 1 ∷ pos 2 ∷ pos 4 ∷ pos 8 ∷ pos 16 ∷ pos 32 ∷ pos 64 ∷ []) (lent 18) (lentScratch 6)
     ≡ record {
       answer = done tt;
       coordinates =
@@ -69,18 +69,18 @@ LongPath =
           ∷ pos 8 ∷ pos 7 ∷ pos 112
           ∷ pos 127 ∷ pos 0 ∷ pos 0
           ∷ [];
-      scratch = zeros 144;
+      scratch = clearedScratch 6;
     }
 
 -- N = 10, vertex 0 at (1, 4, 5), 2 at (4, 1, 5), 5 at (2, 3, 5). The s of colour 0: 0 to 5 has 4 - 3, 5 to 4 has 3, 2 to 4 has 1, 3 to 4 has 10. The s of
 -- colour 1: 0 to 3 has 1, 5 to 2 has 2 - 4, 2 to 3 has 4. Every other s is 0. So the weights are 3, 1, 1, 1 - 3 + 2, -2 - 1, 4 - 1, 10 - 1 - 4.
 abbrev Signed : Type 0
 Signed =
-    backwardCall 6 mixed (placed (pos 10) (pos 1) (pos 4) (pos 5) (pos 4) (pos 1) (pos 5) (pos 2) (pos 3) (pos 5)) (lent 7) (lent 144)
+    backwardCall 6 mixed (placed (pos 10) (pos 1) (pos 4) (pos 5) (pos 4) (pos 1) (pos 5) (pos 2) (pos 3) (pos 5)) (lent 7) (lentScratch 6)
     ≡ record {
       answer = done tt;
       weights = pos 3 ∷ pos 1 ∷ pos 1 ∷ pos 0 ∷ minus 3 ∷ pos 3 ∷ pos 5 ∷ [];
-      scratch = zeros 144;
+      scratch = clearedScratch 6;
     }
 
 pub map-cases : Every (Paths0 ∷ Paths1 ∷ Walks ∷ PowersOf2 ∷ LongPath ∷ Signed ∷ [])

@@ -24,7 +24,7 @@ abbrev pub coordinatesLength : ℕ → ℕ
 coordinatesLength n = 3 * n
 
 abbrev pub scratchLength : ℕ → ℕ
-scratchLength n = 24 * n
+scratchLength n = 10 * n
 
 abbrev pub pointsLength : ℕ → ℕ
 pointsLength n = 2 * n

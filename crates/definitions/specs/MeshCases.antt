@@ -1,6 +1,6 @@
 -- Cases of our own for the shared functions on lists and for "Mesh and lent slices", computed of the definitions: lengths, darts, and the rows 3 to 5
 -- of the table of refusals. What each expects is worked out from the paper by hand; the comments say how. Assumes nothing.
-use Prim.Native.Nat.{ℕ, _*_}
+use Prim.Native.Nat.{ℕ}
 use mathlib.Core.Path.{_≡_, refl}
 use mathlib.Core.Option.{none, some}
 use mathlib.Core.List.{List, [], _∷_, map}
@@ -11,7 +11,7 @@ use Rattle.definitions.specs.Answers.{refused, numbered}
 use Rattle.definitions.specs.Mesh.{trianglesLength, labelsLength, weightsLength, coordinatesLength, scratchLength, pointsLength}
 use Rattle.definitions.specs.Mesh.{corners, darts, triangles, inner, tip, opp, rotations, outgoing, component}
 use Rattle.definitions.specs.Refusals.{checkCall}
-use Rattle.definitions.specs.CheckedShells.{Every, all-held, _and_, tetra, lent, zeros, minus}
+use Rattle.definitions.specs.CheckedShells.{Every, all-held, _and_, tetra, lentScratch, clearedScratch, minus}
 
 -- ---- functions on lists
 
@@ -35,7 +35,7 @@ ListFunctions =
 abbrev Lengths : Type 0
 Lengths =
     map (λ length. length 100) (trianglesLength ∷ labelsLength ∷ weightsLength ∷ coordinatesLength ∷ scratchLength ∷ pointsLength ∷ [])
-    ≡ 588 ∷ 585 ∷ 195 ∷ 300 ∷ 2400 ∷ 200 ∷ []
+    ≡ 588 ∷ 585 ∷ 195 ∷ 300 ∷ 1000 ∷ 200 ∷ []
 
 -- ---- darts of the tetra (0,2,1) (0,3,2) (3,1,2) (0,1,3)
 
@@ -70,7 +70,7 @@ Pieces =
 
 -- the mesh check of n and its triangles answers k
 abbrev Refuses : ℕ → List ℕ → ℕ → Type 0
-Refuses n ts k = checkCall n ts (lent (24 * n)) ≡ record { answer = refused (numbered k); scratch = zeros (24 * n) }
+Refuses n ts k = checkCall n ts (lentScratch n) ≡ record { answer = refused (numbered k); scratch = clearedScratch n }
 
 -- n + 1 in the last place, n in the first
 abbrev VertexNumbers : Type 0

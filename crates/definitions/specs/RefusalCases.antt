@@ -13,10 +13,10 @@ use lib.Ieee.{Float, ofBits, binary64}
 use Rattle.definitions.specs.Answers.{done, refused, numbered, vertexPinched, vertexStray, stoppedAfter, shareOutside, lineBroken, number}
 use Rattle.definitions.specs.Refusals.{checkCall, labelsCall, forwardCall, backwardCall, repairCall, snapCall}
 use Rattle.definitions.specs.Refusals.{Accepted, AcceptedWeights, AcceptedCoordinates}
-use Rattle.definitions.specs.CheckedShells.{Every, all-held, _and_, pair, tetra, five, stale, lent, zeros, minus, tetraAt}
+use Rattle.definitions.specs.CheckedShells.{Every, all-held, _and_, pair, tetra, five, stale, lent, lentScratch, zeros, clearedScratch, minus, tetraAt}
 use Rattle.definitions.specs.RefusalTable.{torus, L, noNumber}
 
--- Lent slices for n = 3: 6 vertex numbers, 3 labels, 1 weight, 9 coordinates, 72 words of scratch, 6 shares. For n = 4: 12, 9, 3, 12, 96 and 8.
+-- Lent slices for n = 3: 6 vertex numbers, 3 labels, 1 weight, 9 coordinates, 30 words of scratch, 6 shares. For n = 4: 12, 9, 3, 12, 40 and 8.
 
 -- ---- a call that answers k, with scratch as `left` says and every other slice as lent
 
@@ -60,21 +60,36 @@ Vertices =
     × SnapRefuses 4097 [] 4 (lent 1) 1
     × SnapRefuses 4096 [] 4 (lent 1) 2
 
--- each slice of each call, a word too short or too long, while the others have their lengths
+-- k words of scratch are 2 in each call on a mesh, while the other slices have their lengths
+abbrev OtherScratch : ℕ → Type 0
+OtherScratch k =
+    CheckRefuses 3 pair (lent k) 2 (lent k)
+    × LabelsRefuses 3 pair (stale 3) (lent k) 2 (lent k)
+    × ForwardRefuses 3 pair (lent 1) (lent 9) (lent k) 2 (lent k)
+    × BackwardRefuses 3 pair (lent 9) (lent 1) (lent k) 2 (lent k)
+    × RepairRefuses 3 pair (lent 1) (lent 9) (lent k) 2 (lent k)
+
+-- 10n words, n = 3: one less, one more, and the 24n of before C-20
+abbrev ScratchWords : Type 0
+ScratchWords =
+    OtherScratch 29
+    × OtherScratch 31
+    × OtherScratch 72
+    × (checkCall 3 pair (lent 30) ≡ record { answer = done tt; scratch = zeros 30 })
+
+-- each other slice of each call, an item too short or too long, while the rest have their lengths
 abbrev Lengths : Type 0
 Lengths =
-    CheckRefuses 3 (0 ∷ 2 ∷ 1 ∷ 0 ∷ 1 ∷ []) (lent 72) 2 (lent 72)
-    × CheckRefuses 3 (pair ++ (0 ∷ [])) (lent 72) 2 (lent 72)
-    × CheckRefuses 3 pair (lent 71) 2 (lent 71)
-    × CheckRefuses 3 pair (lent 73) 2 (lent 73)
-    × LabelsRefuses 3 pair (stale 2) (lent 72) 2 (lent 72)
-    × LabelsRefuses 3 pair (stale 4) (lent 72) 2 (lent 72)
-    × ForwardRefuses 3 pair (lent 2) (lent 9) (lent 72) 2 (lent 72)
-    × ForwardRefuses 3 pair (lent 1) (lent 8) (lent 72) 2 (lent 72)
-    × BackwardRefuses 3 pair (lent 10) (lent 1) (lent 72) 2 (lent 72)
-    × BackwardRefuses 3 pair (lent 9) [] (lent 72) 2 (lent 72)
-    × RepairRefuses 3 pair [] (lent 9) (lent 72) 2 (lent 72)
-    × RepairRefuses 3 pair (lent 1) (lent 10) (lent 72) 2 (lent 72)
+    CheckRefuses 3 (0 ∷ 2 ∷ 1 ∷ 0 ∷ 1 ∷ []) (lentScratch 3) 2 (lentScratch 3)
+    × CheckRefuses 3 (pair ++ (0 ∷ [])) (lentScratch 3) 2 (lentScratch 3)
+    × LabelsRefuses 3 pair (stale 2) (lentScratch 3) 2 (lentScratch 3)
+    × LabelsRefuses 3 pair (stale 4) (lentScratch 3) 2 (lentScratch 3)
+    × ForwardRefuses 3 pair (lent 2) (lent 9) (lentScratch 3) 2 (lentScratch 3)
+    × ForwardRefuses 3 pair (lent 1) (lent 8) (lentScratch 3) 2 (lentScratch 3)
+    × BackwardRefuses 3 pair (lent 10) (lent 1) (lentScratch 3) 2 (lentScratch 3)
+    × BackwardRefuses 3 pair (lent 9) [] (lentScratch 3) 2 (lentScratch 3)
+    × RepairRefuses 3 pair [] (lent 9) (lentScratch 3) 2 (lentScratch 3)
+    × RepairRefuses 3 pair (lent 1) (lent 10) (lentScratch 3) 2 (lentScratch 3)
     × SnapRefuses 3 (replicate 5 zeroShare) 4 (lent 9) 2
     × SnapRefuses 3 (replicate 7 zeroShare) 4 (lent 9) 2
     × SnapRefuses 3 (replicate 6 zeroShare) 4 (lent 8) 2
@@ -86,9 +101,9 @@ Lengths =
 -- A vertex twice in the second triangle, whose side from 0 to 1 the first has too: 4. (Document 01's examples of 5, 6 and 7 break the next row as well.)
 abbrev MeshOrder : Type 0
 MeshOrder =
-    CheckRefuses 3 (0 ∷ 2 ∷ 7 ∷ []) (lent 72) 2 (lent 72)
-    × CheckRefuses 3 (0 ∷ 0 ∷ 1 ∷ 0 ∷ 1 ∷ 3 ∷ []) (lent 72) 3 (zeros 72)
-    × CheckRefuses 3 (0 ∷ 1 ∷ 2 ∷ 0 ∷ 0 ∷ 1 ∷ []) (lent 72) 4 (zeros 72)
+    CheckRefuses 3 (0 ∷ 2 ∷ 7 ∷ []) (lentScratch 3) 2 (lentScratch 3)
+    × CheckRefuses 3 (0 ∷ 0 ∷ 1 ∷ 0 ∷ 1 ∷ 3 ∷ []) (lentScratch 3) 3 (clearedScratch 3)
+    × CheckRefuses 3 (0 ∷ 1 ∷ 2 ∷ 0 ∷ 0 ∷ 1 ∷ []) (lentScratch 3) 4 (clearedScratch 3)
 
 -- one triangle twice
 abbrev twice : List ℕ
@@ -97,15 +112,15 @@ twice = 0 ∷ 2 ∷ 1 ∷ 0 ∷ 2 ∷ 1 ∷ []
 -- The mesh is looked at before weights and coordinates, which are past L but for the last case, whose weight would be raised: 5.
 abbrev MeshFirst : Type 0
 MeshFirst =
-    LabelsRefuses 3 twice (stale 3) (lent 72) 5 (zeros 72)
-    × ForwardRefuses 3 twice (pos (L + 1) ∷ []) (lent 9) (lent 72) 5 (zeros 72)
-    × BackwardRefuses 3 twice (replicate 9 (pos (L + 1))) (lent 1) (lent 72) 5 (zeros 72)
-    × RepairRefuses 3 twice (pos (L + 1) ∷ []) (lent 9) (lent 72) 5 (zeros 72)
-    × RepairRefuses 3 twice (pos 0 ∷ []) (lent 9) (lent 72) 5 (zeros 72)
+    LabelsRefuses 3 twice (stale 3) (lentScratch 3) 5 (clearedScratch 3)
+    × ForwardRefuses 3 twice (pos (L + 1) ∷ []) (lent 9) (lentScratch 3) 5 (clearedScratch 3)
+    × BackwardRefuses 3 twice (replicate 9 (pos (L + 1))) (lent 1) (lentScratch 3) 5 (clearedScratch 3)
+    × RepairRefuses 3 twice (pos (L + 1) ∷ []) (lent 9) (lentScratch 3) 5 (clearedScratch 3)
+    × RepairRefuses 3 twice (pos 0 ∷ []) (lent 9) (lentScratch 3) 5 (clearedScratch 3)
 
 -- coordinates of the tetra that backward refuses
 abbrev Backs : List ℤ → ℕ → Type 0
-Backs bs k = BackwardRefuses 4 tetra bs (lent 3) (lent 96) k (zeros 96)
+Backs bs k = BackwardRefuses 4 tetra bs (lent 3) (lentScratch 4) k (clearedScratch 4)
 
 abbrev at : ℤ → ℤ → ℤ → List ℤ
 at x y z = x ∷ y ∷ z ∷ []
@@ -146,21 +161,21 @@ SnapOrder =
 -- among the 64-bit numbers. L - 3 with -9 is L + 6; repair refuses it too, though a raise of -9 to 1 would bring the sum below L.
 abbrev WeightLimit : Type 0
 WeightLimit =
-    (forwardCall 4 tetra (minus 1_073_741_823 ∷ pos 0 ∷ pos 0 ∷ []) (lent 12) (lent 96)
-    ≡ record { answer = done tt; coordinates = tetraAt (minus L) (minus L) (pos 0) (pos 0); scratch = zeros 96 })
-    × (forwardCall 4 tetra (pos 1_073_741_822 ∷ pos 0 ∷ minus 1 ∷ []) (lent 12) (lent 96)
-    ≡ record { answer = done tt; coordinates = tetraAt (pos 1_073_741_821) (pos 1_073_741_822) (pos 0) (minus 1); scratch = zeros 96 })
-    × ForwardRefuses 4 tetra (pos 1_073_741_823 ∷ pos 0 ∷ minus 1 ∷ []) (lent 12) (lent 96) 9 (zeros 96)
-    × ForwardRefuses 4 tetra (minus (2 ^ 63) ∷ pos 0 ∷ pos 0 ∷ []) (lent 12) (lent 96) 9 (zeros 96)
-    × RepairRefuses 4 tetra (pos 1_073_741_820 ∷ minus 9 ∷ pos 0 ∷ []) (lent 12) (lent 96) 9 (zeros 96)
+    (forwardCall 4 tetra (minus 1_073_741_823 ∷ pos 0 ∷ pos 0 ∷ []) (lent 12) (lentScratch 4)
+    ≡ record { answer = done tt; coordinates = tetraAt (minus L) (minus L) (pos 0) (pos 0); scratch = clearedScratch 4 })
+    × (forwardCall 4 tetra (pos 1_073_741_822 ∷ pos 0 ∷ minus 1 ∷ []) (lent 12) (lentScratch 4)
+    ≡ record { answer = done tt; coordinates = tetraAt (pos 1_073_741_821) (pos 1_073_741_822) (pos 0) (minus 1); scratch = clearedScratch 4 })
+    × ForwardRefuses 4 tetra (pos 1_073_741_823 ∷ pos 0 ∷ minus 1 ∷ []) (lent 12) (lentScratch 4) 9 (clearedScratch 4)
+    × ForwardRefuses 4 tetra (minus (2 ^ 63) ∷ pos 0 ∷ pos 0 ∷ []) (lent 12) (lentScratch 4) 9 (clearedScratch 4)
+    × RepairRefuses 4 tetra (pos 1_073_741_820 ∷ minus 9 ∷ pos 0 ∷ []) (lent 12) (lentScratch 4) 9 (clearedScratch 4)
 
 -- L and -L pass: they are N and b1 of vertex 3, so the first weight. -L - 1 does not, at the first place and at the last.
 abbrev CoordinateLimit : Type 0
 CoordinateLimit =
-    (backwardCall 4 tetra (tetraAt (pos 1_073_741_823) (pos 1_073_741_823) (pos 0) (pos 0)) (lent 3) (lent 96)
-    ≡ record { answer = done tt; weights = pos L ∷ pos 0 ∷ pos 0 ∷ []; scratch = zeros 96 })
-    × (backwardCall 4 tetra (tetraAt (minus 1_073_741_823) (minus 1_073_741_823) (pos 0) (pos 0)) (lent 3) (lent 96)
-    ≡ record { answer = done tt; weights = minus L ∷ pos 0 ∷ pos 0 ∷ []; scratch = zeros 96 })
+    (backwardCall 4 tetra (tetraAt (pos 1_073_741_823) (pos 1_073_741_823) (pos 0) (pos 0)) (lent 3) (lentScratch 4)
+    ≡ record { answer = done tt; weights = pos L ∷ pos 0 ∷ pos 0 ∷ []; scratch = clearedScratch 4 })
+    × (backwardCall 4 tetra (tetraAt (minus 1_073_741_823) (minus 1_073_741_823) (pos 0) (pos 0)) (lent 3) (lentScratch 4)
+    ≡ record { answer = done tt; weights = minus L ∷ pos 0 ∷ pos 0 ∷ []; scratch = clearedScratch 4 })
     × Backs (minus 1_073_741_824 ∷ zeros 11) 10
     × Backs (zeros 11 ++ (minus 1_073_741_824 ∷ [])) 10
 
@@ -187,9 +202,10 @@ renumberedCorners = at (pos 0) (pos 5) (pos 0) ++ at (pos 0) (pos 0) (pos 5) ++ 
 
 abbrev NamedCorners : Type 0
 NamedCorners =
-    (backwardCall 3 renumbered renumberedCorners (lent 1) (lent 72)
-    ≡ record { answer = done tt; weights = pos 5 ∷ []; scratch = zeros 72 })
-    × BackwardRefuses 3 renumbered (at (pos 5) (pos 0) (pos 0) ++ at (pos 0) (pos 5) (pos 0) ++ at (pos 0) (pos 0) (pos 5)) (lent 1) (lent 72) 11 (zeros 72)
+    (backwardCall 3 renumbered renumberedCorners (lent 1) (lentScratch 3)
+    ≡ record { answer = done tt; weights = pos 5 ∷ []; scratch = clearedScratch 3 })
+    × BackwardRefuses 3 renumbered (at (pos 5) (pos 0) (pos 0) ++ at (pos 0) (pos 5) (pos 0) ++ at (pos 0) (pos 0) (pos 5)) (lent 1)
+    (lentScratch 3) 11 (clearedScratch 3)
 
 -- a sum below N, at the last vertex and at the one before it (P4 has vertex 3 at (1, 1, 3))
 abbrev Sums : Type 0
@@ -197,7 +213,7 @@ Sums =
     Backs (tetraAt (pos 9) (pos 5) (pos 3) (pos 0)) 12
     × BackwardRefuses 5 five
     (at (pos 5) (pos 0) (pos 0) ++ at (pos 0) (pos 5) (pos 0) ++ at (pos 0) (pos 0) (pos 5) ++ at (pos 1) (pos 1) (pos 2) ++ at (pos 2) (pos 2) (pos 1))
-    (lent 5) (lent 120) 12 (zeros 120)
+    (lent 5) (lentScratch 5) 12 (clearedScratch 5)
 
 -- ---- what a refusal carries beside its number
 
@@ -242,18 +258,26 @@ Coordinates =
 
 pub refusal-cases :
     Every
-    (Vertices ∷ Lengths ∷ MeshOrder ∷ MeshFirst ∷ BackwardOrder ∷ SnapOrder ∷ WeightLimit ∷ CoordinateLimit ∷ Corners ∷ NamedCorners ∷ Sums
-    ∷ Numbers ∷ Meshes ∷ Weights ∷ Coordinates ∷ [])
+    (Vertices ∷ ScratchWords ∷ Lengths ∷ MeshOrder ∷ MeshFirst ∷ BackwardOrder ∷ SnapOrder ∷ WeightLimit ∷ CoordinateLimit ∷ Corners
+    ∷ NamedCorners ∷ Sums ∷ Numbers ∷ Meshes ∷ Weights ∷ Coordinates ∷ [])
 unfolding checkCall labelsCall forwardCall backwardCall repairCall snapCall ofBits
 refusal-cases =
-    vertices and lengths and mesh-order and mesh-first and backward-order and snap-order and weight-limit and coordinate-limit and corners and named-corners
-    and sums and numbers and meshes and weights and coordinates and all-held
+    vertices and scratch-words and lengths and mesh-order and mesh-first and backward-order and snap-order and weight-limit and coordinate-limit
+    and corners and named-corners and sums and numbers and meshes and weights and coordinates and all-held
   where
     vertices : Vertices
     vertices = (refl, refl, refl, refl, refl, refl, refl, refl, refl)
 
+    scratch-words : ScratchWords
+    scratch-words = (
+      (refl, refl, refl, refl, refl),
+      (refl, refl, refl, refl, refl),
+      (refl, refl, refl, refl, refl),
+      refl,
+    )
+
     lengths : Lengths
-    lengths = (refl, refl, refl, refl, refl, refl, refl, refl, refl, refl, refl, refl, refl, refl, refl, refl)
+    lengths = (refl, refl, refl, refl, refl, refl, refl, refl, refl, refl, refl, refl, refl, refl)
 
     mesh-order : MeshOrder
     mesh-order = (refl, refl, refl)

@@ -1,6 +1,6 @@
 -- Document 01's table of refusals with the rows that document 02 adds to it, example by example, and the example of "Job text and packmap", computed of
 -- the definitions. Assumes nothing.
-use Prim.Native.Nat.{ℕ, _+_, _*_, _-_}
+use Prim.Native.Nat.{ℕ, _+_, _-_}
 use mathlib.Core.Path.{_≡_, refl}
 use mathlib.Core.List.{List, [], _∷_, _++_, map}
 use lib.ListN.{length, replicate}
@@ -9,40 +9,41 @@ use lib.Ieee.{Float, ofBits, binary64}
 use Rattle.definitions.specs.Answers.{Refusal, refused, numbered, vertexPinched, vertexStray, stoppedAfter, shareOutside}
 use Rattle.definitions.specs.Refusals.{checkCall, forwardCall, backwardCall, repairCall, snapCall}
 use Rattle.definitions.specs.Job.{bytes, hostCall, prints}
-use Rattle.definitions.specs.CheckedShells.{Every, all-held, _and_, tetra, stale, lent, zeros, minus, half, tetraAt}
+use Rattle.definitions.specs.CheckedShells.{Every, all-held, _and_, tetra, stale, lent, lentScratch, clearedScratch, minus, half, tetraAt}
 
 -- ---- the mesh: 1 to 8, and 25 at the place of 7
 
 -- the mesh check of n and its triangles answers k; scratch holds what `left` says
 abbrev Refuses : ℕ → List ℕ → ℕ → List ℤ → Type 0
-Refuses n ts k left = checkCall n ts (lent (24 * n)) ≡ record { answer = refused (numbered k); scratch = left }
+Refuses n ts k left = checkCall n ts (lentScratch n) ≡ record { answer = refused (numbered k); scratch = left }
 
 -- it answers 7 or 25, with the vertex
 abbrev RefusesVertex : ℕ → List ℕ → Refusal → Type 0
-RefusesVertex n ts why = checkCall n ts (lent (24 * n)) ≡ record { answer = refused why; scratch = zeros (24 * n) }
+RefusesVertex n ts why = checkCall n ts (lentScratch n) ≡ record { answer = refused why; scratch = clearedScratch n }
 
 abbrev Row1 : Type 0
-Row1 = Refuses 2 [] 1 (lent 48)
+Row1 = Refuses 2 [] 1 (lentScratch 2)
 
 abbrev Row2 : Type 0
 Row2 =
-    forwardCall 4 tetra (pos 5 ∷ pos 3 ∷ []) (lent 12) (lent 96) ≡ record { answer = refused (numbered 2); coordinates = lent 12; scratch = lent 96 }
+    forwardCall 4 tetra (pos 5 ∷ pos 3 ∷ []) (lent 12) (lentScratch 4)
+    ≡ record { answer = refused (numbered 2); coordinates = lent 12; scratch = lentScratch 4 }
 
 abbrev Row3 : Type 0
-Row3 = Refuses 3 (0 ∷ 2 ∷ 1 ∷ 0 ∷ 1 ∷ 3 ∷ []) 3 (zeros 72)
+Row3 = Refuses 3 (0 ∷ 2 ∷ 1 ∷ 0 ∷ 1 ∷ 3 ∷ []) 3 (clearedScratch 3)
 
 abbrev Row4 : Type 0
-Row4 = Refuses 3 (0 ∷ 2 ∷ 1 ∷ 0 ∷ 0 ∷ 1 ∷ []) 4 (zeros 72)
+Row4 = Refuses 3 (0 ∷ 2 ∷ 1 ∷ 0 ∷ 0 ∷ 1 ∷ []) 4 (clearedScratch 3)
 
 abbrev Row5 : Type 0
-Row5 = Refuses 3 (0 ∷ 2 ∷ 1 ∷ 0 ∷ 2 ∷ 1 ∷ []) 5 (zeros 72)
+Row5 = Refuses 3 (0 ∷ 2 ∷ 1 ∷ 0 ∷ 2 ∷ 1 ∷ []) 5 (clearedScratch 3)
 
 abbrev Row6 : Type 0
 Row6 =
     Refuses 6
     (0 ∷ 1 ∷ 2 ∷ 0 ∷ 2 ∷ 3 ∷ 0 ∷ 3 ∷ 4 ∷ 0 ∷ 4 ∷ 5 ∷ 0 ∷ 5 ∷ 1 ∷ 1 ∷ 5 ∷ 4 ∷ 1 ∷ 4 ∷ 3 ∷ 2 ∷ 5 ∷ 3 ∷ [])
     6
-    (zeros 144)
+    (clearedScratch 6)
 
 -- a bipyramid over the sides of a, b, c, with the tips 3 and 4
 abbrev bipyramid : ℕ → ℕ → ℕ → List ℕ
@@ -69,7 +70,7 @@ abbrev Row25 : Type 0
 Row25 = RefusesVertex 9 (map (λ v. v - 4) torus) (vertexStray 7)
 
 abbrev Row8 : Type 0
-Row8 = Refuses 11 (tetra ++ torus) 8 (zeros 264)
+Row8 = Refuses 11 (tetra ++ torus) 8 (clearedScratch 11)
 
 -- ---- weights and coordinates: 9 to 13
 
@@ -79,12 +80,12 @@ L = 1_073_741_823
 
 abbrev Row9 : Type 0
 Row9 =
-    forwardCall 4 tetra (pos L ∷ pos 1 ∷ pos 0 ∷ []) (lent 12) (lent 96)
-    ≡ record { answer = refused (numbered 9); coordinates = lent 12; scratch = zeros 96 }
+    forwardCall 4 tetra (pos L ∷ pos 1 ∷ pos 0 ∷ []) (lent 12) (lentScratch 4)
+    ≡ record { answer = refused (numbered 9); coordinates = lent 12; scratch = clearedScratch 4 }
 
 -- coordinates of the tetra that backward refuses
 abbrev Backs : List ℤ → ℕ → Type 0
-Backs bs k = backwardCall 4 tetra bs (lent 3) (lent 96) ≡ record { answer = refused (numbered k); weights = lent 3; scratch = zeros 96 }
+Backs bs k = backwardCall 4 tetra bs (lent 3) (lentScratch 4) ≡ record { answer = refused (numbered k); weights = lent 3; scratch = clearedScratch 4 }
 
 abbrev Row10 : Type 0
 Row10 = Backs (tetraAt (pos 10) (pos 5) (pos (L + 1)) (pos 2)) 10
@@ -100,12 +101,12 @@ Row12 = Backs (tetraAt (pos 9) (pos 5) (pos 3) (pos 2)) 12
 abbrev Row13 : Type 0
 Row13 =
     let ws = pos 1 ∷ minus 1_073_741_821 ∷ pos 1 ∷ [] in
-    repairCall 4 tetra ws (lent 12) (lent 96)
+    repairCall 4 tetra ws (lent 12) (lentScratch 4)
     ≡ record {
       answer = refused (stoppedAfter 0);
       weights = ws;
       coordinates = tetraAt (minus 1_073_741_819) (pos 1) (minus 1_073_741_821) (pos 1);
-      scratch = zeros 96;
+      scratch = clearedScratch 4;
     }
 
 -- ---- drawn points: 14 to 16

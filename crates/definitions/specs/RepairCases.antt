@@ -8,7 +8,7 @@ use lib.IntN.{ℤ, pos}
 use Rattle.definitions.specs.Answers.{done, refused, stoppedAfter}
 use Rattle.definitions.specs.Repair.{area, bad, raise, addTo, finished, stopped, repair, changed}
 use Rattle.definitions.specs.Refusals.{repairCall}
-use Rattle.definitions.specs.CheckedShells.{Every, all-held, _and_, pair, tetra, lent, zeros, minus, tetraAt}
+use Rattle.definitions.specs.CheckedShells.{Every, all-held, _and_, pair, tetra, lent, lentScratch, clearedScratch, minus, tetraAt}
 
 -- ---- one triangle
 
@@ -96,24 +96,24 @@ abbrev LowestFirst : Type 0
 LowestFirst =
     (repair 4 tetra tetraLabels (minus 1 ∷ pos 2 ∷ minus 3 ∷ [])
     ≡ record { ending = finished; weights = pos 4 ∷ pos 5 ∷ pos 1 ∷ []; raises = 2 ∷ 1 ∷ 3 ∷ [] })
-    × (repairCall 4 tetra (minus 1 ∷ pos 2 ∷ minus 3 ∷ []) (lent 12) (lent 96)
+    × (repairCall 4 tetra (minus 1 ∷ pos 2 ∷ minus 3 ∷ []) (lent 12) (lentScratch 4)
     ≡ record {
       answer = done 3;
       weights = pos 4 ∷ pos 5 ∷ pos 1 ∷ [];
       coordinates = tetraAt (pos 10) (pos 4) (pos 5) (pos 1);
-      scratch = zeros 96;
+      scratch = clearedScratch 4;
     })
 
 -- The first weight is 0, so triangle 1 is flat; with B = 400,000,000 its m is B, the raise leaves 1 + B, 0, -B and N = 1. Now triangle 2 is flat, and
 -- its m is B too: the absolute values would sum to 3B + 2, past L.
 abbrev CountSoFar : Type 0
 CountSoFar =
-    (repairCall 4 tetra (pos 0 ∷ pos 0 ∷ minus 400_000_000 ∷ []) (lent 12) (lent 96)
+    (repairCall 4 tetra (pos 0 ∷ pos 0 ∷ minus 400_000_000 ∷ []) (lent 12) (lentScratch 4)
     ≡ record {
       answer = refused (stoppedAfter 1);
       weights = pos 400_000_001 ∷ pos 0 ∷ minus 400_000_000 ∷ [];
       coordinates = tetraAt (pos 1) (pos 400_000_001) (pos 0) (minus 400_000_000);
-      scratch = zeros 96;
+      scratch = clearedScratch 4;
     })
     × (repair 4 tetra tetraLabels (pos 0 ∷ pos 0 ∷ minus 400_000_000 ∷ [])
     ≡ record { ending = stopped; weights = pos 400_000_001 ∷ pos 0 ∷ minus 400_000_000 ∷ []; raises = 1 ∷ [] })
@@ -122,19 +122,19 @@ CountSoFar =
 -- one to L + 1 is refused.
 abbrev RaiseToLimit : Type 0
 RaiseToLimit =
-    (repairCall 4 tetra (pos 1_073_741_821 ∷ pos 0 ∷ pos 1 ∷ []) (lent 12) (lent 96)
+    (repairCall 4 tetra (pos 1_073_741_821 ∷ pos 0 ∷ pos 1 ∷ []) (lent 12) (lentScratch 4)
     ≡ record {
       answer = done 1;
       weights = pos 1_073_741_821 ∷ pos 1 ∷ pos 1 ∷ [];
       coordinates = tetraAt (pos 1_073_741_823) (pos 1_073_741_821) (pos 1) (pos 1);
-      scratch = zeros 96;
+      scratch = clearedScratch 4;
     })
-    × (repairCall 4 tetra (pos 1_073_741_822 ∷ pos 0 ∷ pos 1 ∷ []) (lent 12) (lent 96)
+    × (repairCall 4 tetra (pos 1_073_741_822 ∷ pos 0 ∷ pos 1 ∷ []) (lent 12) (lentScratch 4)
     ≡ record {
       answer = refused (stoppedAfter 0);
       weights = pos 1_073_741_822 ∷ pos 0 ∷ pos 1 ∷ [];
       coordinates = tetraAt (pos 1_073_741_823) (pos 1_073_741_822) (pos 0) (pos 1);
-      scratch = zeros 96;
+      scratch = clearedScratch 4;
     })
 
 -- ---- changed weights: one that rose, one that fell, one of each, none

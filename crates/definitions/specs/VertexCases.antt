@@ -1,6 +1,6 @@
 -- Cases of our own for 7 and 25, which a vertex decides (C-15), computed of the definitions: which of the two it is, and the vertex that is carried. What
 -- each expects is worked out from the paper by hand; the comments say how. Assumes nothing.
-use Prim.Native.Nat.{ℕ, _+_, _-_, _*_}
+use Prim.Native.Nat.{ℕ, _+_, _-_}
 use mathlib.Core.Path.{_≡_, refl}
 use mathlib.Core.Bool.{false}
 use mathlib.Core.List.{List, [], _∷_, _++_, map}
@@ -10,12 +10,12 @@ use Rattle.definitions.specs.Answers.{Refusal, refused, vertexPinched, v
 use Rattle.definitions.specs.Mesh.{ring, stray, pinched}
 use Rattle.definitions.specs.Lists.{upto, filter}
 use Rattle.definitions.specs.Refusals.{checkCall, labelsCall, forwardCall, backwardCall, repairCall}
-use Rattle.definitions.specs.CheckedShells.{Every, all-held, _and_, tetra, stale, lent, zeros}
+use Rattle.definitions.specs.CheckedShells.{Every, all-held, _and_, tetra, stale, lent, lentScratch, clearedScratch}
 use Rattle.definitions.specs.RefusalTable.{torus, L}
 
 -- the mesh check of n and its triangles is refused, and scratch holds zeros
 abbrev Refuses : ℕ → List ℕ → Refusal → Type 0
-Refuses n ts why = checkCall n ts (lent (24 * n)) ≡ record { answer = refused why; scratch = zeros (24 * n) }
+Refuses n ts why = checkCall n ts (lentScratch n) ≡ record { answer = refused why; scratch = clearedScratch n }
 
 -- ---- one kind alone
 
@@ -83,11 +83,11 @@ EachVertex =
 abbrev EachCall : List ℕ → Refusal → Type 0
 EachCall ts why =
     let past = pos (L + 1) in
-    (labelsCall 9 ts (stale 39) (lent 216) ≡ record { answer = refused why; labels = stale 39; scratch = zeros 216 })
-    × (forwardCall 9 ts (replicate 13 past) (lent 27) (lent 216) ≡ record { answer = refused why; coordinates = lent 27; scratch = zeros 216 })
-    × (backwardCall 9 ts (replicate 27 past) (lent 13) (lent 216) ≡ record { answer = refused why; weights = lent 13; scratch = zeros 216 })
-    × (repairCall 9 ts (replicate 13 past) (lent 27) (lent 216)
-    ≡ record { answer = refused why; weights = replicate 13 past; coordinates = lent 27; scratch = zeros 216 })
+    (labelsCall 9 ts (stale 39) (lentScratch 9) ≡ record { answer = refused why; labels = stale 39; scratch = clearedScratch 9 })
+    × (forwardCall 9 ts (replicate 13 past) (lent 27) (lentScratch 9) ≡ record { answer = refused why; coordinates = lent 27; scratch = clearedScratch 9 })
+    × (backwardCall 9 ts (replicate 27 past) (lent 13) (lentScratch 9) ≡ record { answer = refused why; weights = lent 13; scratch = clearedScratch 9 })
+    × (repairCall 9 ts (replicate 13 past) (lent 27) (lentScratch 9)
+    ≡ record { answer = refused why; weights = replicate 13 past; coordinates = lent 27; scratch = clearedScratch 9 })
 
 pub vertex-cases :
     Every

@@ -210,13 +210,18 @@ module _ (n : ℕ) (ts : List ℕ) (ws : List ℤ) where
     ran-done : ran n ts ws ≡ done (listing n (coordinate (end .coordinates) 0 (org ts 0)) raises (end .coordinates))
     ran-done = ran-total ∙ ap {A = ℤ} {B = Answer (List ℕ)} (λ N. done (listing n N raises (end .coordinates))) (sym done-total)
 
-  -- as the code hands it over: the answer r of the repair call on the fronts of two arrays of zeros
-  module _ (F : Fitting n ts ws) (r : RepairAnswer)
-      (told-it : repairToAnswer r ≡ repairCall n ts ws (take (3 * n) (replicate 768 (pos 0))) (take (24 * n) (replicate 6144 (pos 0))) .answer) where
-    zeros : repairCall n ts ws (take (3 * n) (replicate 768 (pos 0))) (take (24 * n) (replicate 6144 (pos 0))) ≡ end
+  -- as the code lends them: the fronts of two arrays of zeros, with room for the largest job
+  abbrev onFronts : Repaired
+  onFronts =
+      repairCall n ts ws (take (coordinatesLength n) (replicate (coordinatesLength 256) (pos 0)))
+      (take (scratchLength n) (replicate (scratchLength 256) (pos 0)))
+
+  -- r is what the code answers
+  module _ (F : Fitting n ts ws) (r : RepairAnswer) (told-it : repairToAnswer r ≡ onFronts .answer) where
+    zeros : onFronts ≡ end
     zeros =
-        ap₂ (repairCall n ts ws) (take-replicate (3 * n) 768 (pos 0) (omega (arith, F .most)))
-        (take-replicate (24 * n) 6144 (pos 0) (omega (arith, F .most)))
+        ap₂ (repairCall n ts ws) (take-replicate (coordinatesLength n) (coordinatesLength 256) (pos 0) (omega (arith, F .most)))
+        (take-replicate (scratchLength n) (scratchLength 256) (pos 0) (omega (arith, F .most)))
 
     answer-is : (a : Answer ℕ) → repairToAnswer r ≡ a → end .answer ≡ a
     answer-is a e = ap (λ (x : Repaired). x .answer) (sym zeros) ∙ sym told-it ∙ e
@@ -225,7 +230,7 @@ module _ (n : ℕ) (ts : List ℕ) (ws : List ℤ) where
     few-raises raises e = omega (arith, F .most, done-few raises (answer-is (done raises) (ap repairToAnswer e)))
 
     pub finish-listed : (raises : ℕ) → r ≡ Repairs raises → (bs : List ℤ)
-        → bs ≡ repairCall n ts ws (take (3 * n) (replicate 768 (pos 0))) (take (24 * n) (replicate 6144 (pos 0))) .coordinates
+        → bs ≡ onFronts .coordinates
         → (before after : List ℕ) (a : JobAnswer) → Ends (done (listing n (coordinate bs 0 (org ts 0)) raises bs)) before after a →
         Ends (ran n ts ws) before after a
     finish-listed raises e bs is before after a h =

@@ -10,7 +10,7 @@ ghost use Rattle.lent_slices.specs.Lengths.{InSize, slicesOf, firstRows}
 const MOST_VERTICES: usize = 4096;
 
 // words of scratch for each vertex
-pub const SCRATCH_WORDS: usize = 24;
+pub const SCRATCH_WORDS: usize = 10;
 
 // row 1: too few vertices, or too many
 fn other_size(n: usize) -> bool
@@ -97,7 +97,8 @@ pub fn mesh_rows(n: usize, triangles: usize, scratch: usize) -> u32
 
 // the same for the labels call
 pub fn labels_rows(n: usize, triangles: usize, labels: usize, scratch: usize) -> u32
-    ensures { λ r. ⌜ r ≡ firstRows n (slice triangles (trianglesLength n) ∷ slice scratch (scratchLength n) ∷ slice labels (labelsLength n) ∷ []) ⌝ }
+    ensures { λ r. ⌜ r ≡ firstRows n (slice triangles (trianglesLength n) ∷ slice scratch (scratchLength n)
+        ∷ slice labels (labelsLength n) ∷ []) ⌝ }
 {
     if other_size(n) {
         return 1;

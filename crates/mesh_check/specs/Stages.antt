@@ -34,7 +34,7 @@ use Rattle.mesh_answer.specs.declared.MeshAnswer.the-variants.{Accepted, Refuse
 
 -- ---- what is lent, and what is left there
 
--- Rows 1 and 2 have found nothing. (Ten words a vertex are used; the scratch that is lent has 24.)
+-- Rows 1 and 2 have found nothing.
 pub record Lent (n : ℕ) (ts : List ℕ) (words : ℕ) : Type 0 where
   pub least : 3 ≤ n
   pub most : n ≤ 4096

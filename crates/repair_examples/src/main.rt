@@ -42,7 +42,7 @@ fn case(a: i64, b: i64, c: i64) {
     let triangles: [u16; 12] = [0, 2, 1, 0, 3, 2, 3, 1, 2, 0, 1, 3];
     let mut weights = [a, b, c];
     let mut coordinates = [0i64; 12];
-    let mut scratch = [0i64; 96];
+    let mut scratch = [0i64; 40];
     let answer = repair_call::repair(4, &triangles, &mut weights, &mut coordinates, &mut scratch);
     io::print_decimal(STDOUT_FILENO, number(answer));
     space();

@@ -9,5 +9,6 @@ pub mod Components
 pub mod FirstRefusal
 pub mod VertexRefusals
 pub mod AsBefore
+pub mod ScratchLength
 pub mod Accept
 pub mod Rotations

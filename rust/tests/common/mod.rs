@@ -74,7 +74,7 @@ pub fn look_at_scratch<T>(answer: &Result<T, Refusal>, scratch: &[i64]) {
 
 /// Scratch for n vertices; for as many as a mesh can have where n is more.
 fn scratch_for(n: usize) -> Vec<i64> {
-    stale(24 * n.min(4096))
+    stale(10 * n.min(4096))
 }
 
 pub fn check(n: usize, triangles: &[u16]) -> Result<(), Refusal> {

@@ -200,7 +200,7 @@ fn sizes(n: usize) -> Sizes {
         labels: 3,
         weights: 1,
         coordinates: 6,
-        scratch: 48,
+        scratch: 20,
         points: 4,
     })
 }
@@ -215,13 +215,17 @@ struct WrongLength {
 
 impl WrongLength {
     /// For some n and each of so many slices: one item short, one too many, n
-    /// short.
+    /// short, 14n too many (scratch as before C-20).
     fn all(slices: usize) -> Vec<WrongLength> {
         let mut all = vec![];
         for n in [3, 4, 9] {
             for slice in 0..slices {
-                for change in [-1, 1, -(n as isize)] {
-                    all.push(WrongLength { n, slice, change });
+                for change in [-1, 1, -n, 14 * n] {
+                    all.push(WrongLength {
+                        n: n as usize,
+                        slice,
+                        change,
+                    });
                 }
             }
         }

@@ -147,7 +147,7 @@ fn by_fast_forward(
     weights: &mut [i64],
 ) -> (Vec<naive::Raise>, bool) {
     let work = &mut Work::default();
-    let mut scratch = vec![0; 24 * n];
+    let mut scratch = vec![0; sizes(n).scratch];
     naive::repair_by(corners, weights, |w| {
         let mut b = vec![0; 3 * n];
         let answer = maps::forward(work, n, t, w, &mut b, &mut scratch);

@@ -1,15 +1,16 @@
 -- `job_call::finish` meets its contract: each answer of repair gives one end of the job. Assumes nothing.
 use native.Mathlib.Omega.{arith}
 use borrow.Author.Needs.{needs}
+use Rattle.definitions.specs.Mesh.{coordinatesLength, scratchLength}
 use Rattle.job_call.specs.Outcomes.{zeros-lent, few-raises, finish-listed, finish-refused, finish-stopped}
 use Rattle.job_call.proofs.finish.Statement.{statement}
 use Rattle.job_call.proofs.finish.Tie as tie
 
 slice-aggregate-places : tie.Need-slice-aggregate-places
-slice-aggregate-places c = zeros-lent _ 768 (omega arith)
+slice-aggregate-places c = zeros-lent _ (coordinatesLength 256) (omega arith)
 
 slice-aggregate-repair : tie.Need-slice-aggregate-repair
-slice-aggregate-repair c = zeros-lent _ 6144 (omega arith)
+slice-aggregate-repair c = zeros-lent _ (scratchLength 256) (omega arith)
 
 list-requires : tie.Need-list-requires
 list-requires c κs = search (few-raises, needs)
