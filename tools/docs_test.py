@@ -10,7 +10,7 @@ import re
 import sys
 
 TOP = pathlib.Path(__file__).resolve().parent.parent
-PAGES = ["README.md"] + [f"docs/{name}.md" for name in ("READING", "OPERATING", "TESTING", "ARCHITECTURE", "TERMS", "DECISIONS")]
+PAGES = ["README.md"] + [f"docs/{name}.md" for name in ("READING", "OPERATING", "EIGHT-CASES", "TESTING", "ARCHITECTURE", "TERMS", "DECISIONS")]
 # folders of which every path that is cited has to be there
 FOLDERS = "bench", "compare", "crates", "docs", "faults", "host", "rust", "samples", "second", "tools"
 CRATES = {path.name: path for path in (TOP / "crates").iterdir() if path.is_dir()}

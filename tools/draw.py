@@ -3,11 +3,14 @@
 
     python3 tools/draw.py JOB LISTING > out.svg
     python3 tools/draw.py JOB LISTING -o out.svg
+    python3 tools/draw.py --labels JOB LISTING > out.svg
 
 The drawing has one polygon for each inner triangle, the sides, the rim, and the
 vertices by number. Triangles that repair has raised are marked, and so are flat
 and turned ones, which no listing of packmap has. Where a number does not fit,
 the vertex is a dot; pointing at a vertex or a triangle tells all about it.
+With --labels each inner side has an arrow too, in its colour and towards where
+it runs, and each corner its label.
 
 Raised triangles are those whose weight in the job differs from the weight that
 the listing's coordinates stand for, by the backward map of document 01. All of
@@ -167,13 +170,18 @@ class Mesh:
         """Vertices of triangle t labelled 0, 1, 2."""
         return sorted(self.triangles[t], key=self.label[t].get)
 
-    def slope(self, b, i, j):
-        """s of the side joining i and j."""
+    def directed(self, i, j):
+        """Colour, tail and head of the side joining i and j; of a rim side, towards j."""
         for tail, head in (i, j), (j, i):
             colour = self.label[self.of[i, j]][head]
             if colour == self.label[self.of[j, i]][head]:
-                return (b[tail][1] - b[head][1], b[tail][0] - b[head][0], 0)[colour]
+                return colour, tail, head
         raise Malformed("the triangles are no sphere")
+
+    def slope(self, b, i, j):
+        """s of the side joining i and j."""
+        colour, tail, head = self.directed(i, j)
+        return (b[tail][1] - b[head][1], b[tail][0] - b[head][0], 0)[colour]
 
     def weight(self, b, t):
         """The weight of triangle t by the backward map."""
@@ -232,6 +240,11 @@ text { font-family: "DejaVu Sans", Verdana, Arial, sans-serif; fill: #141e29 }
 .dot { fill: #1c2f44 }
 .alarm { fill: #b00020; font-weight: bold }
 """
+# colours of sides, and of the labels that they have at their ends
+COLOURS = """.colour0, .label0 { fill: #c22f2f }
+.colour1, .label1 { fill: #1a7f37 }
+.colour2, .label2 { fill: #2257c9 }
+"""
 WARNING = """<pattern id="warning" width="9" height="9" patternUnits="userSpaceOnUse" patternTransform="rotate(45)">
 <rect width="9" height="9" fill="#ff5c7c"/><rect width="4" height="9" fill="#c9002f"/></pattern>"""
 # Sizes of numbers that stand in a spot, and of those beside a dot, largest first.
@@ -261,6 +274,16 @@ def to_side(p, a, b):
     return math.hypot(p[0] - a[0] - along * dx, p[1] - a[1] - along * dy)
 
 
+def arrow(a, b, room=math.inf):
+    """The path of an arrowhead amid the side from a to b, smaller where the side is short or has little room beside it."""
+    far = math.dist(a, b) or 1
+    x, y = (b[0] - a[0]) / far, (b[1] - a[1]) / far
+    long = between(2, min(far / 5, room), 13)
+    tip = (a[0] + b[0] + x * long) / 2, (a[1] + b[1] + y * long) / 2
+    ends = [(tip[0] - x * long - y * wide, tip[1] - y * long + x * wide) for wide in (0.45 * long, -0.45 * long)]
+    return f"M{pair(tip)} {pair(ends[0])} {pair(ends[1])}Z"
+
+
 class Box:
     """An upright box about a point."""
 
@@ -284,8 +307,8 @@ class Box:
 class Sheet:
     """Places on the sheet: v0 at the left, v1 at the right, v2 at the top."""
 
-    def __init__(self, drawn):
-        self.drawn, mesh = drawn, drawn.mesh
+    def __init__(self, drawn, labelled=False):
+        self.drawn, self.labelled, mesh = drawn, labelled, drawn.mesh
         self.width = round(640 + 60 * math.sqrt(mesh.n))
         shares = [[x / drawn.total for x in place] for place in drawn.b]
         flat = [(s[1] + s[2] / 2, -math.sqrt(3) / 2 * s[2]) for s in shares]
@@ -339,6 +362,39 @@ class Sheet:
             if i < j and t and u:
                 width = between(0.15, min(self.thin[t], self.thin[u]) / 12, 1.3)
                 yield f'<path class="side" stroke-width="{short(width)}" d="M{pair(self.at[i])} {pair(self.at[j])}"/>'
+
+    def arrows(self):
+        """Amid each inner side an arrow in its colour."""
+        mesh = self.drawn.mesh
+        for (i, j), t in mesh.of.items():
+            u = mesh.of[j, i]
+            if i < j and t and u:
+                colour, tail, head = mesh.directed(i, j)
+                room = 0.8 * min(self.thin[t], self.thin[u])
+                about = f"<title>side {tail} to {head}, colour {colour}</title>"
+                yield f'<path class="colour{colour}" d="{arrow(self.at[tail], self.at[head], room)}">{about}</path>'
+
+    def labels(self):
+        """The label of each corner of an inner triangle, where it fits: past the vertex's spot, amid its two sides."""
+        mesh = self.drawn.mesh
+        for t in self.drawn.area:
+            size = min(15, self.thin[t] / 4)
+            if size < 3:
+                continue
+            a, b, c = (self.at[v] for v in mesh.triangles[t])
+            parts = math.dist(b, c), math.dist(c, a), math.dist(a, b)
+            middle = [sum(part * at[k] for part, at in zip(parts, (a, b, c))) / sum(parts) for k in range(2)]
+            within = to_side(middle, a, b)
+            for v in mesh.triangles[t]:
+                x, y = self.at[v]
+                spot = min(self.room[v] * 0.6, self.gap[v] * 0.47, 15)
+                along = between(0.1, max(0.8 * size / within, (spot + 0.6 * size) / math.dist((x, y), middle)), 0.9)
+                x, y = x + along * (middle[0] - x), y + along * (middle[1] - y)
+                label = mesh.label[t][v]
+                yield (
+                    f'<text class="number label{label}" font-size="{short(size)}" x="{short(x)}"'
+                    f' y="{short(y + 0.36 * size)}">{label}</text>'
+                )
 
     def rim(self):
         points = " ".join(pair(self.at[v]) for v in self.drawn.mesh.rim)
@@ -437,12 +493,15 @@ class Sheet:
         size = f'viewBox="0 0 {self.width} {self.height}" width="{self.width}" height="{self.height}"'
         yield f'<svg xmlns="http://www.w3.org/2000/svg" {size}>'
         yield f"<title>Shell map of {self.drawn.mesh.n} vertices</title>"
-        yield f"<style>{STYLE}</style>"
+        yield f"<style>{STYLE}{COLOURS if self.labelled else ''}</style>"
         yield f"<defs>{WARNING}</defs>"
         yield '<rect width="100%" height="100%" fill="#ffffff"/>'
         yield from self.triangles()
         yield from self.sides()
         yield self.rim()
+        if self.labelled:
+            yield from self.arrows()
+            yield from self.labels()
         yield from self.vertices()
         yield from self.legend()
         yield "</svg>"
@@ -452,10 +511,11 @@ def main():
     parser = argparse.ArgumentParser(description="Draws a job text and its listing as an SVG.")
     parser.add_argument("job", metavar="JOB")
     parser.add_argument("listing", metavar="LISTING")
+    parser.add_argument("--labels", action="store_true", help="labels in the corners, arrows on the sides")
     parser.add_argument("-o", "--output", metavar="OUT", help="file to write (standard output if not given)")
     words = parser.parse_args()
     try:
-        svg = "\n".join(Sheet(Map(words.job, words.listing)).svg()) + "\n"
+        svg = "\n".join(Sheet(Map(words.job, words.listing), words.labels).svg()) + "\n"
         if words.output:
             with open(words.output, "w", encoding="ascii") as file:
                 file.write(svg)

@@ -107,10 +107,29 @@ class Drawing(unittest.TestCase):
         self.assertEqual(drawn.of("wrong"), {3})
 
     def test_samples(self):
-        job, listing = ((TOP / "samples" / name).read_text() for name in ("shell-64.job", "shell-64.listing"))
-        self.assertEqual(second("job", text=job), listing)
-        done = self.draw(job, listing)
-        self.assertEqual(done.stdout, (TOP / "samples/shell-64.svg").read_text())
+        for name, words in ("shell-64", []), ("shell-8", ["--labels"]):
+            job, listing, svg = ((TOP / "samples" / f"{name}.{kind}").read_text() for kind in ("job", "listing", "svg"))
+            self.assertEqual(second("job", text=job), listing)
+            self.assertEqual(self.draw(job, listing, *words).stdout, svg)
+
+    def test_arrows(self):
+        """Every inner side once, and from each inner vertex one side of each colour."""
+        for n in 3, 4, 9, 64, 256:
+            job = second("sphere", n, n, "unit")
+            done = self.draw(job, second("job", text=job), "--labels")
+            arrows = re.findall(r'class="colour(.)" .*?<title>side (\d+) to (\d+), colour (.)<', done.stdout)
+            triangles = [line.split("\t")[1:] for line in job.splitlines() if line.startswith("t")]
+            rim = triangles[0]
+            inner = {frozenset(pair) for a, b, c in triangles for pair in ((a, b), (b, c), (c, a)) if not set(pair) <= set(rim)}
+            self.assertEqual(len(arrows), len(inner))
+            self.assertEqual({frozenset((tail, head)) for _, tail, head, _ in arrows}, inner)
+            leaving = sorted((tail, colour) for kind, tail, _, colour in arrows if kind == colour)
+            self.assertEqual(leaving, sorted((str(v), c) for v in range(n) if str(v) not in rim for c in "012"))
+
+    def test_corner_labels(self):
+        job = second("sphere", 5, 1, "unit")
+        words = self.draw(job, second("job", text=job), "--labels").stdout
+        self.assertEqual([words.count(f'class="number label{c}"') for c in range(3)], [5, 5, 5])
 
     def test_output_file(self):
         out = self.folder / "out.svg"

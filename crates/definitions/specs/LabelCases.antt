@@ -15,7 +15,7 @@ use Rattle.definitions.specs.CheckedShells.{Every, all-held, _and_, stal
 
 -- v2 = 2 leaves first and puts 3 and 5 on the frontier 0, 3, 5, 1, around 4. Both can leave, and 3 is the smaller: it passes (3, 0, 4) and
 -- (3, 4, 5). Then 4 has a chord to 1, so 5 leaves, and 4 last. With 5 first, (3, 4, 5) would have the labels 0, 1, 2.
-abbrev six : List ℕ
+abbrev pub six : List ℕ
 six =
     0 ∷ 2 ∷ 1
     ∷ 0 ∷ 3 ∷ 2
@@ -27,14 +27,11 @@ six =
     ∷ 0 ∷ 1 ∷ 4
     ∷ []
 
+abbrev pub sixLabels : List ℕ
+sixLabels = 0 ∷ 1 ∷ 2 ∷ 0 ∷ 1 ∷ 2 ∷ 0 ∷ 1 ∷ 2 ∷ 2 ∷ 0 ∷ 1 ∷ 2 ∷ 0 ∷ 1 ∷ 0 ∷ 1 ∷ 2 ∷ 0 ∷ 1 ∷ 2 ∷ []
+
 abbrev SmallestFirst : Type 0
-SmallestFirst =
-    labelsCall 6 six (stale 21) (lentScratch 6)
-    ≡ record {
-      answer = done tt;
-      labels = 0 ∷ 1 ∷ 2 ∷ 0 ∷ 1 ∷ 2 ∷ 0 ∷ 1 ∷ 2 ∷ 2 ∷ 0 ∷ 1 ∷ 2 ∷ 0 ∷ 1 ∷ 0 ∷ 1 ∷ 2 ∷ 0 ∷ 1 ∷ 2 ∷ [];
-      scratch = clearedScratch 6;
-    }
+SmallestFirst = labelsCall 6 six (stale 21) (lentScratch 6) ≡ record { answer = done tt; labels = sixLabels; scratch = clearedScratch 6 }
 
 -- v0 = 1 and v1 = 0 are smaller than v2 = 2, and both stay: 2 at v2, 0 at v0, 1 at v1.
 abbrev EndsStay : Type 0

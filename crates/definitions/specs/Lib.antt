@@ -7,6 +7,7 @@ pub mod Mesh
 pub mod Labels
 pub mod Forward
 pub mod Backward
+pub mod Directions
 pub mod Repair
 pub mod DrawnPoints
 pub mod Refusals
@@ -17,6 +18,7 @@ pub mod MeshCases
 pub mod VertexCases
 pub mod LabelCases
 pub mod MapCases
+pub mod DirectionCases
 pub mod RepairCases
 pub mod PointCases
 pub mod RefusalCases

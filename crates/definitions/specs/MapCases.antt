@@ -36,7 +36,7 @@ Walks = Walk 1 (5 ∷ 12 ∷ 22 ∷ []) × Walk 2 (6 ∷ 17 ∷ 12 ∷ 22 ∷ []
 -- ---- coordinates and weights
 
 -- The coordinates of vertex 0, then v2 = 1, 2, v1 = 3, v0 = 4, and 5.
-abbrev placed : ℤ → ℤ → ℤ → ℤ → ℤ → ℤ → ℤ → ℤ → ℤ → ℤ → List ℤ
+abbrev pub placed : ℤ → ℤ → ℤ → ℤ → ℤ → ℤ → ℤ → ℤ → ℤ → ℤ → List ℤ
 placed N x0 y0 z0 x2 y2 z2 x5 y5 z5 =
     let o = pos 0 in
     x0 ∷ y0 ∷ z0 ∷ o ∷ o ∷ N ∷ x2 ∷ y2 ∷ z2 ∷ o ∷ N ∷ o ∷ N ∷ o ∷ o ∷ x5 ∷ y5 ∷ z5 ∷ []

@@ -1,7 +1,7 @@
 -- Signed numbers for `omega`: a whole number is the difference of two naturals, `up` and `dn`, of which omega proves what is linear. Assumes nothing.
 -- `omega (int, z+ a b, z- c d)` proves a linear ≡, ≤ℤ or <ℤ over ℤ from such facts in reach: list `z+`, `z-` or `zneg` for each sum, difference or
--- negation in it, `zpos k` for each literal `pos k`, and `zabs` for each absolute value. A fact of ℤ that is not in reach is listed through `z≡`, `z≤`,
--- `z<`.
+-- negation in it (`z++` and `z--` for those of three numbers), `zpos k` for each literal `pos k`, and `zabs` for each absolute value. A fact of ℤ that is
+-- not in reach is listed through `z≡`, `z≤`, `z<`.
 use Prim.Native.Nat.{ℕ, zero, suc, _+_, _-_, _≤_, _<_}
 use mathlib.Core.Path.{_≡_, refl, ap}
 use mathlib.Core.Bool.{Bool, true, false, cond}
@@ -95,6 +95,13 @@ z+ (negsuc a) (negsuc b) = omega arith
 
 pub z- : (a b : ℤ) → up (a -ℤ b) + dn a + up b ≡ up a + dn b + dn (a -ℤ b)
 z- a b = omega (arith, z+ a (negℤ b), zneg b)
+
+-- of three numbers
+pub z++ : (a b c : ℤ) → up (a +ℤ b +ℤ c) + dn a + dn b + dn c ≡ up a + up b + up c + dn (a +ℤ b +ℤ c)
+z++ a b c = omega (arith, z+ a b, z+ (a +ℤ b) c)
+
+pub z-- : (a b c : ℤ) → up (a -ℤ b -ℤ c) + dn a + up b + up c ≡ up a + dn b + dn c + dn (a -ℤ b -ℤ c)
+z-- a b c = omega (arith, z- a b, z- (a -ℤ b) c)
 
 -- ---- laws of ℤ, by omega
 

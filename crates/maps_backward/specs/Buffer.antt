@@ -1,14 +1,16 @@
 -- Weights kept in scratch, past the words of the darts. Assumes nothing.
 use Prim.Native.Nat.{ℕ, _+_, _/_, _≤_, _<_}
-use mathlib.Core.Path.{_≡_, refl, sym, ap, fun-ext, _∙_}
+use mathlib.Core.Path.{_≡_, refl, sym, ap₂, fun-ext, _∙_}
 use mathlib.Core.List.{List}
 use native.Mathlib.Omega.{arith}
 use native.Mathlib.Decide.{ℕ-discrete, decLt}
 use lib.ListN.{length, getD, set, length-set}
 use lib.Seq.{getD-set-same, getD-set-other, ext-getD}
 use lib.IntN.{ℤ, pos}
+use Rattle.definitions.specs.Mesh.{org}
+use Rattle.definitions.specs.Backward.{coordinate}
 use Rattle.scratch_tables.specs.Tables.{wordAt, tablesOf, op-in, op-past, pastDarts}
-use Rattle.maps_backward.specs.Slopes.{weightOf, weights, weights-at}
+use Rattle.maps_backward.specs.Weights.{weightOf, weights, weights-at}
 
 -- scratch s holds the list xs there
 pub record Buffered (xs s : List ℤ) : Type 0 where
@@ -51,10 +53,11 @@ pub keeping-all : (xs s₀ s : List ℤ) (i : ℕ) → length xs ≤ i → Buffe
 keeping-all xs s₀ s i h K = record { entries = λ j b. rw (K .long) (K .entries j (omega arith)) }
 
 -- a weight worked out with some kept already
-pub kept-weight : (bs : List ℤ) (ts : List ℕ) (s₀ s : List ℤ) (i : ℕ) (x : ℤ) → Buffering (weights bs (tablesOf s₀ .op) ts) s₀ s i →
-    i + 1 < length ts / 3 →
-    x ≡ weightOf bs (tablesOf s .op) ts (i + 1) → x ≡ getD (weights bs (tablesOf s₀ .op) ts) i (pos 0)
-kept-weight bs ts s₀ s i x K h e = e ∙ ap (λ (w : ℕ → ℕ). weightOf bs w ts (i + 1)) (K .same) ∙ sym (weights-at bs (tablesOf s₀ .op) ts i h)
+pub kept-weight : (bs : List ℤ) (ts : List ℕ) (s₀ s : List ℤ) (i : ℕ) (N x : ℤ) → Buffering (weights bs (tablesOf s₀ .op) ts) s₀ s i →
+    i + 1 < length ts / 3 → N ≡ coordinate bs 0 (org ts 0) → x ≡ weightOf bs (tablesOf s .op) ts N (i + 1) →
+    x ≡ getD (weights bs (tablesOf s₀ .op) ts) i (pos 0)
+kept-weight bs ts s₀ s i N x K h t e =
+    e ∙ ap₂ (λ (w : ℕ → ℕ) (N : ℤ). weightOf bs w ts N (i + 1)) (K .same) t ∙ sym (weights-at bs (tablesOf s₀ .op) ts i h)
 
 -- the loop that writes them
 pub record Copied (s ws₀ ws : List ℤ) (i : ℕ) : Type 0 where

@@ -8,7 +8,7 @@ use native.Mathlib.Decide.{ℕ-discrete}
 use Rattle.definitions.specs.Mesh.{tri, next, prev}
 use Rattle.laws.specs.Every.{Every, every-append, every-in}
 use Rattle.theory_sphere.specs.Sphere.{Sphere}
-use Rattle.theory_sphere.specs.Darts.{tri-prev, next-prev, prev-next, next-next, prev-prev, same-tri, next-below, prev-below, tri-below, below-tri}
+use Rattle.theory_sphere.specs.Darts.{tri-next, tri-prev, next-prev, prev-next, next-next, prev-prev, same-tri, next-below, prev-below, tri-below, below-tri}
 use Rattle.theory_realizer.specs.Trace.{Fan, end, more, edge, Trace, done, step, fans}
 use Rattle.theory_realizer.specs.Realizer.{Inner, Rim, Points, inside, along, Between, Middle, Coloured, Realizer}
 use Rattle.theory_sphere.specs.Rotations.{tip-opp, org-rot, tip-rot}
@@ -91,20 +91,23 @@ module _ {n T : ℕ} {org opp label v : ℕ → ℕ} (sph : Sphere n T org opp) 
   rim-colour′ c d h z (inside i p q) = absurd (omega (arith, z, i .that, ap tri (sph .twice d h)))
   rim-colour′ c d h z (along r e) = sym (tip-opp sph d h) ∙ e
 
-  -- which of its darts lead to v2, and which leave it
-  to-v2 : (d : ℕ) → tri d ≡ 0 → org (next d) ≡ v 2 → d ≡ 0
+  -- which of its darts leaves v2, and which leads there: the ones that do so at neither v0 nor v1
+  leaves-v2 : (d : ℕ) → tri d ≡ 0 → org d ≢ v 0 → org d ≢ v 1 → d ≡ 1
+  unfolding tri
+  leaves-v2 zero z p q = absurd (p (sym (named .v0)))
+  leaves-v2 (suc zero) z p q = refl
+  leaves-v2 (suc (suc zero)) z p q = absurd (q (sym (named .v1)))
+  leaves-v2 (suc (suc (suc d))) z p q = absurd (omega arith)
+
+  leads-to-v2 : (d : ℕ) → tri d ≡ 0 → org (next d) ≢ v 0 → org (next d) ≢ v 1 → d ≡ 0
   unfolding tri next
-  to-v2 zero z e = refl
-  to-v2 (suc zero) z e = absurd (apart12 (e ∙ named .v2))
-  to-v2 (suc (suc zero)) z e = absurd (apart02 (e ∙ named .v2))
-  to-v2 (suc (suc (suc d))) z e = absurd (omega arith)
+  leads-to-v2 d z p q = omega (arith, leaves-v2 (next d) (tri-next d ∙ z) p q)
 
   from-v2 : (d : ℕ) → tri d ≡ 0 → org d ≡ v 2 → d ≡ 1
-  unfolding tri
-  from-v2 zero z e = absurd (apart02 (e ∙ named .v2))
-  from-v2 (suc zero) z e = refl
-  from-v2 (suc (suc zero)) z e = absurd (apart12 (e ∙ named .v2))
-  from-v2 (suc (suc (suc d))) z e = absurd (omega arith)
+  from-v2 d z e = leaves-v2 d z (λ k. apart02 (sym (named .v0) ∙ sym k ∙ e ∙ named .v2)) (λ k. apart12 (sym (named .v1) ∙ sym k ∙ e ∙ named .v2))
+
+  to-v2 : (d : ℕ) → tri d ≡ 0 → org (next d) ≡ v 2 → d ≡ 0
+  to-v2 d z e = leads-to-v2 d z (λ k. apart02 (sym (named .v0) ∙ sym k ∙ e ∙ named .v2)) (λ k. apart12 (sym (named .v1) ∙ sym k ∙ e ∙ named .v2))
 
   -- and it has those, both ways
   rim : (d : ℕ) → d < 3 → Rim T opp d
@@ -317,6 +320,19 @@ module _ {n T : ℕ} {org opp label v : ℕ → ℕ} (sph : Sphere n T org opp) 
   unfolding edge
   exit {g} a z = outer-side (opp (next g)) (sph .dart (next g) (next-below T g (a .below))) z (fanning (apex-passed a) .beyond)
 
+  -- and its triangle's other two sides are on the rim only beside v2
+  pub left-rim : {g : ℕ} → Apex T label g → tri (opp g) ≡ 0 → opp g ≡ 0
+  left-rim {g} a z =
+      let f = fanning (apex-passed a) in
+      let e = tip-opp sph g (a .below) in
+      leads-to-v2 (opp g) z (λ k. f .not0 (sym e ∙ k)) (λ k. f .not1 (sym e ∙ k))
+
+  pub right-rim : {g : ℕ} → Apex T label g → tri (opp (prev g)) ≡ 0 → opp (prev g) ≡ 1
+  right-rim {g} a z =
+      let f = fanning (apex-passed a) in
+      let e = org-rot sph g (a .below) in
+      leaves-v2 (opp (prev g)) z (λ k. f .not0 (sym e ∙ k)) (λ k. f .not1 (sym e ∙ k))
+
   -- ---- the colours of a side
 
   -- v0, v1, v2 are different
@@ -335,8 +351,12 @@ module _ {n T : ℕ} {org opp label v : ℕ → ℕ} (sph : Sphere n T org opp) 
   v-once (suc zero) (suc (suc (suc e))) h k q = absurd (omega arith)
   v-once (suc (suc zero)) (suc (suc (suc e))) h k q = absurd (omega arith)
 
-  not-both : {X : Type 0} (d : ℕ) → Inner T opp d → Rim T opp d → X
+  pub not-both : {X : Type 0} (d : ℕ) → Inner T opp d → Rim T opp d → X
   not-both d i r = elim (r .outer) [ inl z ↦ absurd (omega (arith, z, i .this)) | inr z ↦ absurd (omega (arith, z, i .that)) ]
+
+  -- the opposite dart of an inner side, and of a rim side
+  pub flip-inner : (d : ℕ) → Inner T opp d → Inner T opp (opp d)
+  flip-inner d i = record { below = sph .dart d (i .below); this = i .that; that = omega (arith, i .this, ap tri (sph .twice d (i .below))) }
 
   flip-rim : (d : ℕ) → d < 3 * T → Rim T opp (opp d) → Rim T opp d
   flip-rim d h r =
@@ -352,12 +372,16 @@ module _ {n T : ℕ} {org opp label v : ℕ → ℕ} (sph : Sphere n T org opp) 
   one-way c e d h k (along r p) (inside i′ p′ q′) = not-both d i′ r
   one-way c e d h k (along r p) (along r′ p′) = v-once c e h k (sym p ∙ p′)
 
+  -- an inner side has a colour towards one of its ends alone
+  pub inner-one-way : {X : Type 0} (c e d : ℕ) → Inner T opp d → Points T org opp label v c d → Points T org opp label v e (opp d) → X
+  inner-one-way c e d i (inside _ p q) (inside i′ p′ q′) =
+      absurd (omega (arith, p, q, p′, q′, ap label (sph .twice d (i .below)), cycle d (i .below) (i .this), cycle (opp d) (i′ .below) (i .that)))
+  inner-one-way c e d i (inside _ p q) (along r′ p′) = not-both d i (flip-rim d (i .below) r′)
+  inner-one-way c e d i (along r p) t = not-both d i r
+
   -- and colours towards both ends only on the rim
   pub both-ways : (c e d : ℕ) → Points T org opp label v c d → Points T org opp label v e (opp d) → (org (next d) ≡ v c) × (org d ≡ v e)
-  both-ways c e d (inside i p q) (inside i′ p′ q′) =
-      let l = sph .twice d (i .below) in
-      absurd (omega (arith, p, q, p′, q′, ap label l, cycle d (i .below) (i .this), cycle (opp d) (i′ .below) (i .that)))
-  both-ways c e d (inside i p q) (along r′ p′) = not-both d i (flip-rim d (i .below) r′)
+  both-ways c e d (inside i p q) t = inner-one-way c e d i (inside i p q) t
   both-ways c e d (along r p) (inside i′ p′ q′) =
       elim (r .outer) [
         | inl z ↦ absurd (omega (arith, z, i′ .that, ap tri (sph .twice d (r .below))))

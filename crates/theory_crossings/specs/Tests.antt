@@ -64,14 +64,14 @@ abbrev pub Towards : List ℕ → List ℕ → ℕ → ℕ → Type 0
 Towards ts ls = Points (length ts / 3) (org ts) (opp ts) (label ls) (outer ts)
 
 module _ (ts ls : List ℕ) where
-  rim-true : (d : ℕ) → d < 3 * (length ts / 3) → rim ts d ≡ true → Rim (length ts / 3) (opp ts) d
+  pub rim-true : (d : ℕ) → d < 3 * (length ts / 3) → rim ts d ≡ true → Rim (length ts / 3) (opp ts) d
   rim-true d h e =
       elim (or-either (eqb (tri d) 0) (eqb (tri (opp ts d)) 0) (sym (rim-is ts ls d) ∙ e)) [
         | inl p ↦ record { below = h; outer = inl (eqb-true (tri d) 0 p) }
         | inr p ↦ record { below = h; outer = inr (eqb-true (tri (opp ts d)) 0 p) }
       ]
 
-  rim-false : (d : ℕ) → d < 3 * (length ts / 3) → rim ts d ≡ false → Inner (length ts / 3) (opp ts) d
+  pub rim-false : (d : ℕ) → d < 3 * (length ts / 3) → rim ts d ≡ false → Inner (length ts / 3) (opp ts) d
   rim-false d h e =
       let r = or-neither (eqb (tri d) 0) (eqb (tri (opp ts d)) 0) (sym (rim-is ts ls d) ∙ e) in
       let p : tri d ≢ 0 = eqb-false (tri d) 0 (r .0) in
@@ -85,7 +85,7 @@ module _ (ts ls : List ℕ) where
         | inr e ↦ or-right (eqb (tri d) 0) (eqb (tri (opp ts d)) 0) (eq-eqb (tri (opp ts d)) 0 e)
       ]
 
-  false-rim : (d : ℕ) → Inner (length ts / 3) (opp ts) d → rim ts d ≡ false
+  pub false-rim : (d : ℕ) → Inner (length ts / 3) (opp ts) d → rim ts d ≡ false
   false-rim d i =
       let p : eqb (tri d) 0 ≡ false = ne-eqb (tri d) 0 (λ e. omega (arith, e, i .this)) in
       let q : eqb (tri (opp ts d)) 0 ≡ false = ne-eqb (tri (opp ts d)) 0 (λ e. omega (arith, e, i .that)) in

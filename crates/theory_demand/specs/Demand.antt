@@ -63,10 +63,10 @@ pub record Demand (n : ℕ) (ts : List ℕ) : Type 0 where
 -- ---- an accepted mesh always has labels that keep the rules, and so unit maps
 
 module _ (n : ℕ) (ts : List ℕ) (acc : Accepted n ts) where
-  sphere : Sphere n (length ts / 3) (org ts) (opp ts)
+  pub sphere : Sphere n (length ts / 3) (org ts) (opp ts)
   sphere = accepted-sphere n ts acc
 
-  realizerOfLabels : Realizer n (length ts / 3) (org ts) (opp ts) (label (labels n ts)) (outer ts)
+  pub realizerOfLabels : Realizer n (length ts / 3) (org ts) (opp ts) (label (labels n ts)) (outer ts)
   realizerOfLabels = realizer n ts sphere (acc .1)
 
   pub maps : Units n ts (labels n ts)

@@ -1,3 +1,4 @@
--- An accepted mesh always gets labels, and the third demand.
+-- An accepted mesh always gets labels; the third demand; weights by eight cases.
 pub mod Labels
 pub mod Demand
+pub mod EightCases

@@ -3,4 +3,5 @@ pub mod Drawings
 pub mod Rows
 pub mod Slopes
 pub mod Maps
+pub mod Directions
 pub mod RoundTrips

@@ -81,10 +81,10 @@ module _ {n : ℕ} (ts ls : List ℕ) (sph : Sphere n (length ts / 3) (org ts) (
       rest e0 e1 e2 e3 (suc (suc c)) l (inr p) = B (suc (suc c)) l p
 
   -- a fall, along a dart from i to j and against it
-  difference-at : (c d i j : ℕ) → org ts d ≡ i → org ts (next d) ≡ j → difference ts ls bs c d ≡ coordinate bs c i -ℤ coordinate bs c j
+  pub difference-at : (c d i j : ℕ) → org ts d ≡ i → org ts (next d) ≡ j → difference ts ls bs c d ≡ coordinate bs c i -ℤ coordinate bs c j
   difference-at c d i j p q = difference-is ts ls bs c d ∙ rw (p, q)
 
-  difference-back : (c d i j : ℕ) → d < 3 * (length ts / 3) → org ts d ≡ i → org ts (next d) ≡ j →
+  pub difference-back : (c d i j : ℕ) → d < 3 * (length ts / 3) → org ts d ≡ i → org ts (next d) ≡ j →
       difference ts ls bs c (opp ts d) ≡ coordinate bs c j -ℤ coordinate bs c i
   difference-back c d i j h p q = difference-at c (opp ts d) j i (sph .reverses d h ∙ q) (tip-opp sph d h ∙ p)
 

@@ -70,17 +70,54 @@ impl Labelled {
         self.corners.iter().map(|t| weight(t) as i64).collect()
     }
 
+    /// The same weights by document 02's rule for the directions of the sides
+    /// pq, qr and rp, each after its case: 4, 2 and 1 for those that run
+    /// that way.
+    pub fn by_cases(&self, b: &[i64], choice: usize) -> Vec<(usize, i64)> {
+        let weigh = |t| self.by_case(t, b, choice);
+        self.corners.iter().map(weigh).collect()
+    }
+
+    fn by_case(&self, t: &Triple, b: &[i64], choice: usize) -> (usize, i64) {
+        let at = |v: usize, c: usize| b[3 * v + c] as i128;
+        let mut case = 0;
+        // For the corner of each label, those that its sides run to.
+        let mut to: [Vec<usize>; 3] = Default::default();
+        for c in 0..3 {
+            let d = (c + 1) % 3;
+            let (_, tail, _) = self.directed((t[c], t[d]), choice);
+            let (from, head) = if tail == t[c] { (c, d) } else { (d, c) };
+            case = 2 * case + (from == c) as usize;
+            to[from].push(head);
+        }
+        let leaving = |sides: usize| to.iter().position(|to| to.len() == sides);
+        let weight = match (leaving(2), leaving(1)) {
+            // Two sides leave a corner: its own coordinate there, less the
+            // same one at the corner between.
+            (Some(c), Some(between)) => at(t[c], c) - at(t[between], c),
+            // They run in a circle: N, less each corner's own coordinate at
+            // the one that its side runs to.
+            _ => at(self.outer[0], 0) - (0..3).map(|c| at(t[to[c][0]], c)).sum::<i128>(),
+        };
+        (case, weight as i64)
+    }
+
     /// s of a side.
     fn s(&self, side: Side, b: &[i64], choice: usize) -> i128 {
         let at = |v: usize, c: usize| b[3 * v + c] as i128;
-        let (colour, i, j) = match self.colours.get(&undirected(side)) {
-            Some(&found) => found,
-            None => self.rim_side(side, choice),
-        };
+        let (colour, i, j) = self.directed(side, choice);
         match colour {
             0 => at(i, 1) - at(j, 1),
             1 => at(i, 0) - at(j, 0),
             _ => 0,
+        }
+    }
+
+    /// A side's colour, tail and head.
+    fn directed(&self, side: Side, choice: usize) -> (u8, usize, usize) {
+        match self.colours.get(&undirected(side)) {
+            Some(&found) => found,
+            None => self.rim_side(side, choice),
         }
     }
 

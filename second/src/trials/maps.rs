@@ -115,6 +115,7 @@ pub(super) fn lengths(trials: &mut Trials) {
 
 /// Both maps on random spheres, with weights of every kind.
 pub(super) fn random(trials: &mut Trials) {
+    let mut met = [false; 8];
     for round in 0..2 * trials.rounds {
         let n = trials.size_in(round, 4096);
         let t = sphere(&mut trials.rng, n);
@@ -135,12 +136,17 @@ pub(super) fn random(trials: &mut Trials) {
                 trials.equal(&b, &slow.forward(&w), "forward, slow and fast");
                 for choice in 0..2 {
                     trials.equal(&w, &slow.backward(&b, choice), "backward, slow");
+                    let (cases, by_cases): (Vec<usize>, Vec<i64>) =
+                        slow.by_cases(&b, choice).into_iter().unzip();
+                    trials.equal(&w, &by_cases, "backward by eight cases");
+                    cases.into_iter().for_each(|case| met[case] = true);
                 }
             }
         }
         addition(trials, n, &t);
         there_and_back(trials, n, &t, slow.as_ref());
     }
+    trials.equal(met, [true; 8], "each of the eight cases is met");
 }
 
 /// What holds for coordinates b of accepted weights w: sums, bounds and places
@@ -194,6 +200,8 @@ fn there_and_back(trials: &mut Trials, n: usize, t: &[u16], slow: Option<&naive:
         Ok(w) => {
             if let Some(slow) = slow {
                 trials.equal(&w, &slow.backward(&b, 0), "backward, slow and fast");
+                let by_cases = slow.by_cases(&b, 0).into_iter().map(|(_, w)| w);
+                trials.equal(&w, &by_cases.collect(), "eight cases, any coordinates");
             }
             let again = trials.forward(n, t, &w);
             trials.equal(again, Ok(b), "coordinates there and back");

@@ -1,7 +1,6 @@
 -- `maps_backward::difference` meets its contract: two coordinates within the limit leave their difference room. Assumes nothing.
 use Rattle.int64.specs.Whole.{values, sizes}
 use Rattle.maps_limits.specs.Limits.{coordinate-size}
-use Rattle.maps_backward.specs.Slopes.{differenceOf}
 use borrow.Author.Needs.{needs}
 use Rattle.maps_backward.proofs.difference.Statement.{statement}
 use Rattle.maps_backward.proofs.difference.Tie as tie
@@ -10,8 +9,7 @@ minus-requires : tie.Need-minus-requires
 minus-requires c κs = let start : tie.Start = search in omega (coordinate-size _ (start .pre .3), sizes)
 
 returns : tie.Need-returns
-unfolding differenceOf
-returns c = let start : tie.Start = search in (search values, omega (coordinate-size _ (start .pre .3), sizes))
+returns c = search values
 
 pub difference-spec : {M : Type 1} → statement M
 difference-spec =

@@ -9,21 +9,21 @@ use Rattle.laws.specs.Lists.{clash}
 use Rattle.scratch_tables.specs.Tables.{pastDarts, tablesOf}
 use Rattle.int64.specs.Whole.{held}
 use Rattle.maps_limits.specs.Limits.{Summed, summed-none, summed-more, summed-past, summed-all}
-use Rattle.maps_backward.specs.Slopes.{weights, length-weights, weights-is}
+use Rattle.maps_backward.specs.Weights.{weights, length-weights, weights-is}
 use Rattle.maps_backward.specs.Buffer.{Buffering, keeping-none, keeping-more, keeping-all, kept-weight}
 use borrow.Author.Needs.{needs}
 use Rattle.maps_backward.proofs.weights_past_limit.Statement.{statement}
 use Rattle.maps_backward.proofs.weights_past_limit.Tie as tie
 
 abbrev Inv-loop : tie.InvT-loop
-Inv-loop triangles coordinates scratch₀ first sum₀ i₀ scratch sum i = let ws = weights coordinates (tablesOf scratch₀ .op) triangles in
+Inv-loop triangles coordinates scratch₀ first total sum₀ i₀ scratch sum i = let ws = weights coordinates (tablesOf scratch₀ .op) triangles in
     Buffering ws scratch₀ scratch i × Summed ws i sum × (i ≤ length triangles / 3) × (first ≡ pastDarts (length scratch₀))
 
 abbrev μ-loop : tie.MeasureT-loop
-μ-loop triangles coordinates scratch₀ first sum₀ i₀ scratch sum i = length triangles / 3 - i
+μ-loop triangles coordinates scratch₀ first total sum₀ i₀ scratch sum i = length triangles / 3 - i
 
 loop-holds : tie.Need-loop-holds Inv-loop μ-loop
-loop-holds c = search (tablesOf, summed-none, weights, keeping-none, needs)
+loop-holds c = search (summed-none, keeping-none, needs)
 
 returns : tie.Need-returns Inv-loop μ-loop
 returns c =
@@ -33,8 +33,9 @@ returns c =
     let after-weight-of : tie.After-weight-of Inv-loop μ-loop = search in
     let a = start .args in let ts = a .triangles .now in let bs = a .coordinates .now in let w = tablesOf _ .op in let i = at-loop .loop .i in
     let x = after-weight-of .weight-of in let m = c .before .magnitude in let h = in-loop .loop-test .taken in
-    let e = kept-weight bs ts _ _ i (x .result) (at-loop .loop .inv .0) h (x .ensures) in (
-      λ n ls l. rw (← weights-is l bs (start .pre .3)) (summed-past (weights bs w ts) i _ (m .result) (omega (arith, length-weights bs w ts, h))
+    let N : tie.After-total-of Inv-loop μ-loop = search in
+    let e = kept-weight bs ts _ _ i _ (x .result) (at-loop .loop .inv .0) h (held _ (N .total-of .ok) ∙ N .total-of .ensures .0) (x .ensures) in (
+      λ n ls d. rw (← weights-is d) (summed-past (weights bs w ts) i _ (m .result) (omega (arith, length-weights bs w ts, h))
           (m .ensures .0 ∙ ap natAbs (held (x .result) (x .ok) ∙ e)) (omega (arith, c .if1 .taken)) (at-loop .loop .inv .1)),
       λ e. clash refl e,
     )
@@ -51,7 +52,10 @@ loop-again c =
     let a = start .args in let ts = a .triangles .now in let bs = a .coordinates .now in let s = a .scratch .now in let ws = weights bs (tablesOf s .op) ts in
     let i = at-loop .loop .i in
     let x = after-weight-of .weight-of in let m = after-magnitude .magnitude in let h = in-loop .loop-test .taken in
-    let e = kept-weight bs ts s (at-loop .loop .scratch) i (x .result) (at-loop .loop .inv .0) h (x .ensures) in let k = held (x .result) (x .ok) in (
+    let N : tie.After-total-of Inv-loop μ-loop = search in
+    let e = kept-weight bs ts s (at-loop .loop .scratch) i _ (x .result) (at-loop .loop .inv .0) h (held _ (N .total-of .ok) ∙ N .total-of .ensures .0)
+    (x .ensures) in
+    let k = held (x .result) (x .ok) in (
       keeping-more ws s (at-loop .loop .scratch) (c .before .put .last .0) i (past .past-darts .result + i) (x .result) (at-loop .loop .inv .0)
           (omega (arith, past .past-darts .ensures .0))
           (omega (arith, start .pre .1, h, at-loop .loop .inv .0 .long, past .past-darts .ensures .0)) (c .before .put .ensures
@@ -67,8 +71,8 @@ returns-2 c =
     let start : tie.Start Inv-loop μ-loop = search in
     let a = start .args in let ts = a .triangles .now in let bs = a .coordinates .now in let s = a .scratch .now in let ws = weights bs (tablesOf s .op) ts in
     let b : length ws ≤ c .before .loop .i = omega (arith, length-weights bs (tablesOf s .op) ts, c .loop-test .left) in (
-      λ n ls l. rw (← weights-is l bs (start .pre .3)) (summed-all ws _ _ b (c .before .loop .inv .1)),
-      λ e n ls l. rw (← weights-is l bs (start .pre .3)) (keeping-all ws s _ _ b (c .before .loop .inv .0)),
+      λ n ls d. rw (← weights-is d) (summed-all ws _ _ b (c .before .loop .inv .1)),
+      λ e n ls d. rw (← weights-is d) (keeping-all ws s _ _ b (c .before .loop .inv .0)),
     )
 
 pub weights-past-limit-spec : {M : Type 1} → statement M
@@ -77,6 +81,7 @@ weights-past-limit-spec =
     (tie.spec
     Inv-loop
     μ-loop
+    (λ c κs. search needs)
     (λ c. search needs)
     loop-holds
     (λ c. search needs)

@@ -2,7 +2,7 @@
 use mathlib.Core.Path.{sym, _∙_}
 use native.Mathlib.Omega.{arith}
 use Rattle.definitions.specs.Labels.{labels}
-use Rattle.maps_backward.specs.Slopes.{length-backward}
+use Rattle.maps_backward.specs.Weights.{LabelledDrawing, length-backward}
 use Rattle.labels_call.specs.Labelling.{labelled-refused, labelled-accepted}
 use Rattle.maps_call.specs.CallOutcomes.{backward-mesh, backward-10, backward-11, backward-12, backward-9, backward-done}
 use borrow.Author.Needs.{needs}
@@ -41,7 +41,7 @@ returns-4 c =
     backward-12 _ _ _ _ _ (start .pre) (A .0 .2) (cc) (cc) (cc)
 
 weights-past-limit-requires : tie.Need-weights-past-limit-requires
-weights-past-limit-requires c κs = (omega arith, omega arith, (cc), (cc))
+weights-past-limit-requires c κs = (omega arith, omega arith, (cc))
 
 returns-5 : tie.Need-returns-5
 returns-5 c =
@@ -60,7 +60,8 @@ returns-5 c =
     let twelve = sym (sum .off-sum .ensures) ∙ on-sum .if3 .left in
     let A = labelled-accepted _ _ (labelled .label-mesh .last .1 .1 .0) (labelled .label-mesh .result) (accepted .enum-told .given .1)
     (labelled .label-mesh .ensures) in
-    let nine = past .weights-past-limit .ensures .0 _ _ (A .1) in
+    let drawing : LabelledDrawing _ _ _ _ _ = record { peeled = A .1; corners = eleven; sums = twelve } in
+    let nine = past .weights-past-limit .ensures .0 _ _ drawing in
     backward-9 _ _ _ _ _ (start .pre) (A .0 .2) ten eleven twelve (sym nine ∙ c .if4 .taken)
 
 returns-6 : tie.Need-returns-6
@@ -82,10 +83,11 @@ returns-6 c =
     let within : tie.Else4 = search in
     let A = labelled-accepted _ _ (labelled .label-mesh .last .1 .1 .0) (labelled .label-mesh .result) (accepted .enum-told .given .1)
     (labelled .label-mesh .ensures) in
-    let nine = past .weights-past-limit .ensures .0 _ _ (A .1) in
+    let drawing : LabelledDrawing _ _ _ _ _ = record { peeled = A .1; corners = eleven; sums = twelve } in
+    let nine = past .weights-past-limit .ensures .0 _ _ drawing in
     let long = length-backward (start .args .triangles .now) (labels (start .args .n) (start .args .triangles .now)) (start .args .coordinates .now) in
     backward-done _ _ _ _ _ (start .pre) (A .0 .2) ten eleven twelve (sym nine ∙ within .if4 .left) _
-    (wrote .write-weights .ensures _ (past .weights-past-limit .ensures .1 (within .if4 .left) _ _ (A .1)) (omega (arith, long)))
+    (wrote .write-weights .ensures _ (past .weights-past-limit .ensures .1 (within .if4 .left) _ _ drawing) (omega (arith, long)))
 
 pub run-backward-spec : {M : Type 1} → statement M
 run-backward-spec =
