@@ -55,11 +55,23 @@ const fn row(word: &'static str, name: &'static str, set: [&'static str; 3]) -> 
 }
 
 /// On a nest with all weights zero every triangle is raised, 2n - 5 of them.
-const ROWS: [Row; 9] = [
+const ROWS: [Row; 13] = [
     row("check", "check", ["check", "random", "unit"]),
+    row("check-nest", "check, nest", ["check", "nest", "unit"]),
     row("labels", "labels", ["labels", "random", "unit"]),
+    row("labels-nest", "labels, nest", ["labels", "nest", "unit"]),
     row("forward", "forward", ["forward", "random", "positive"]),
+    row(
+        "forward-nest",
+        "forward, nest",
+        ["forward", "nest", "positive"],
+    ),
     row("backward", "backward", ["backward", "random", "positive"]),
+    row(
+        "backward-nest",
+        "backward, nest",
+        ["backward", "nest", "positive"],
+    ),
     row(
         "repair",
         "repair, random weights",

@@ -1,5 +1,5 @@
 // Whole numbers in 64 bits: each operation gives the number itself, where the operands' absolute values leave it room.
-// Slices of them are read one entry at a time, as 0 past the end.
+// Slices of them are read one entry at a time: `get` asks that it is there, `at` reads 0 past the end.
 ghost use mathlib.Core.Path.{_≡_};
 ghost use Prim.Native.Nat.{_+_, _-_, _*_, _<_, _≤_, _^_};
 ghost use lib.ListN.{length, getD, set};
@@ -68,12 +68,12 @@ pub fn at(s: &[i64], i: usize) -> i64
     if i < s.len() { s[i] } else { 0 }
 }
 
-// the absolute value of an entry
-pub fn size_at(s: &[i64], i: usize) -> usize
-    ensures is { λ r. ⌜ r ≡ natAbs (getD (now (s .entry)) i (pos 0)) ⌝ }
-    ensures small { λ r. ⌜ r ≤ 2 ^ 63 ⌝ }
+// an entry that there is
+pub fn get(s: &[i64], i: usize) -> i64
+    requires { ⌜ i < length (now s) ⌝ }
+    ensures { λ r. ⌜ r ≡ getD (now (s .entry)) i (pos 0) ⌝ }
 {
-    magnitude(at(s, i))
+    s[i]
 }
 
 pub fn put(s: &mut [i64], i: usize, x: i64)
@@ -89,14 +89,6 @@ pub fn coordinate_of(s: &[i64], c: usize, i: usize) -> i64
     ensures { λ r. ⌜ r ≡ coordinate (now (s .entry)) c i ⌝ }
 {
     at(s, 3 * i + c)
-}
-
-// coordinate c of vertex i is x
-pub fn coordinate_is(s: &[i64], c: usize, i: usize, x: i64) -> bool
-    requires { ⌜ (c < 3) × (i < 65536) ⌝ }
-    ensures { λ r. ⌜ r ≡ eqZ (coordinate (now (s .entry)) c i) x ⌝ }
-{
-    equal(coordinate_of(s, c, i), x)
 }
 
 // a vertex number or a count of 16 bits

@@ -30,6 +30,18 @@ const COORDINATES: usize = 3 * MOST_VERTICES;
 
 const SCRATCH: usize = SCRATCH_WORDS * MOST_VERTICES;
 
+// v0
+fn first_corner(triangles: &[u16]) -> usize
+    ensures is { λ r. ⌜ r ≡ org (now (triangles .entry)) 0 ⌝ }
+    ensures small { λ r. ⌜ r < 65536 ⌝ }
+{
+    if 0 < triangles.len() {
+        int64::widen(triangles[0])
+    } else {
+        0
+    }
+}
+
 // The listing of repaired weights, by their coordinates. N is b0 of v0.
 fn list(
     n: usize,
@@ -42,7 +54,7 @@ fn list(
     ensures { λ r. ⌜ Ends (done (listingOf n (coordinate (now (coordinates .entry)) 0 (org (now (triangles .entry)) 0)) raises (now (coordinates .entry))))
         (now (listing .entry)) (now (listing .exit)) r ⌝ }
 {
-    let total = int64::coordinate_of(coordinates, 0, scratch_tables::origin(triangles, 0));
+    let total = int64::coordinate_of(coordinates, 0, first_corner(triangles));
     match text_write_listing::write_listing(n, total, raises, coordinates, listing) {
         Listed::Bytes(length) => JobAnswer::Listed(length),
         Listed::Short => JobAnswer::Refused(18),

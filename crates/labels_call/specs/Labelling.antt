@@ -1,5 +1,5 @@
 -- What scratch holds after the mesh check and the labels stage, and that the labels read from it are the definition's. Assumes nothing.
-use Prim.Native.Nat.{ℕ, zero, suc, _+_, _*_, _≤_, _<_}
+use Prim.Native.Nat.{ℕ, zero, suc, _+_, _*_, _/_, _%_, _<_}
 use mathlib.Core.Path.{_≡_, refl, sym, _∙_}
 use mathlib.Core.List.{List, [], _∷_}
 use mathlib.Core.Option.{some}
@@ -9,68 +9,32 @@ use native.Mathlib.Numerals.{add-three}
 use lib.ListN.{length, getD, set, length-set, List·getD-eq-default}
 use lib.Seq.{ext-getD, getD-set-same, getD-set-other}
 use lib.IntN.{ℤ}
-use Rattle.definitions.specs.Mesh.{labelsLength, next, prev, org}
+use Rattle.definitions.specs.Mesh.{labelsLength, org, opp}
 use Rattle.definitions.specs.Answers.{firstRefusal}
 use Rattle.definitions.specs.Refusals.{meshRows, Accepted as AcceptedMesh}
 use Rattle.definitions.specs.Labels.{labels, label}
 use Rattle.laws.specs.Lists.{getD-in}
-use Rattle.theory_sphere.specs.Rows.{row3-means}
-use Rattle.theory_sphere.specs.FirstRefusal.{refusal-clean}
+use Rattle.theory_sphere.specs.Sphere.{Sphere}
 use Rattle.theory_peeling.specs.Labelled.{labels-exact, labels-below}
-use Rattle.scratch_tables.specs.Tables.{Tables, tablesOf, dartIn}
+use Rattle.scratch_tables.specs.Tables.{tablesOf}
+use Rattle.mesh_tables.specs.Incidence.{incidenceOf, incidence}
+use Rattle.labels_tables.specs.Peeling.{peelingOf, peeling}
 use Rattle.labels_tables.specs.LabelledTables.{Peeled, labelIn, labelIn-is}
+use Rattle.labels_write.specs.Writing.{Readable}
 use Rattle.mesh_answer.specs.Answer.{toRefusal, refusalIn}
 use Rattle.mesh_answer.specs.declared.Refusal.{Refusal}
 use Rattle.mesh_check.specs.Stages.{Lent, Examined, Accepting, accepting-mesh, accepting-sphere}
 use Rattle.mesh_answer.specs.declared.MeshAnswer.{MeshAnswer}
 use Rattle.mesh_answer.specs.declared.MeshAnswer.the-variants.{Accepted, Refused}
-use Rattle.labels_model.specs.Model.{Room, HasVertices, peelTables}
+use Rattle.labels_model.specs.Counters.{Meshed}
+use Rattle.labels_model.specs.Model.{peelTables}
+use Rattle.labels_model.specs.Preconditions.{Room, HasMesh, has-mesh}
 use Rattle.labels_model.specs.Result.{peeled-tables}
 
 -- what the answer says: the mesh is accepted, and scratch holds its labels and the trace of its peeling; or a row has found something
 abbrev pub Labelling : ℕ → List ℕ → List ℤ → MeshAnswer → Type 0
 Labelling n ts s Accepted = AcceptedMesh n ts × Peeled n ts (labels n ts) s
 Labelling n ts s (Refused why) = firstRefusal (meshRows n ts) ≡ some (toRefusal why)
-
--- ---- room for the stage
-
-module _ {n : ℕ} {ts : List ℕ} {words : ℕ} (L : Lent n ts words) where
-  -- every corner has a vertex, and what stands past the end reads as one
-  small : {t : Tables} → Accepting n ts t → (d : ℕ) → org ts d < n
-  unfolding org
-  small A d =
-      elim (decLt d (length ts)) [
-        | yes l ↦ row3-means ts n .0 (refusal-clean n ts (A .clean) .clean3) d l
-        | no l ↦ let p : length ts ≤ d = omega arith in rw (List·getD-eq-default ts 0 p) (omega (arith, L .least))
-      ]
-
-  inside : (d : ℕ) → d < 6 * n → dartIn words d
-  inside d h = omega (arith, L .room)
-
-  near : (g : ℕ) → g < length ts → (next g < 6 * n) × (prev g < 6 * n) × (g < 6 * n) × (g < 65536)
-  unfolding next prev
-  near g h = omega (arith, L .triangles, L .most, L .least)
-
-  pub has-room : {t : Tables} → Accepting n ts t → Room ts words
-  has-room A =
-      record {
-        darts = λ g h. let b = near g h in record {
-          dart = b .3;
-          here = inside g (b .2);
-          following = inside (next g) (b .0);
-          previous = inside (prev g) (b .1);
-        };
-        vertices = λ d. record { room = omega (arith, small A d, L .room); small = omega (arith, small A d, L .most) };
-        few = omega (arith, L .triangles, L .most);
-      }
-
-  pub is-wide : HasVertices n words
-  is-wide = record { room = L .room; small = omega (arith, L .most) }
-
-  -- the stage ends with the labels
-  pub labelling : {t : Tables} (A : Accepting n ts t) (s : List ℤ) → tablesOf s ≡ peelTables ts n t → AcceptedMesh n ts
-      × Peeled n ts (labels n ts) s
-  labelling {t} A s e = (accepting-mesh L A, peeled-tables n ts (accepting-sphere L A) (L .triangles) (L .most) t (A .tables .opposites) s e)
 
 -- ---- an answer taken apart
 
@@ -80,14 +44,23 @@ labelling-refused n ts s r why e S = let p : Examined n ts s (Refused why) = rw 
 
 -- what the stage asks, and what it leaves, where the mesh check has accepted
 module _ (n : ℕ) (ts : List ℕ) (words : ℕ) (L : Lent n ts words) (s : List ℤ) (a : MeshAnswer) (e : a ≡ Accepted) (S : Examined n ts s a) where
-  accepting : Accepting n ts (tablesOf s)
+  accepting : Accepting n ts (incidence s)
   accepting = rw e at S
 
-  pub can-peel : (m : ℕ) → m ≡ words → Room ts m × HasVertices n m
-  can-peel m f = rw f (has-room L accepting, is-wide L)
+  sphere : Sphere n (length ts / 3) (org ts) (opp ts)
+  sphere = accepting-sphere L accepting
 
-  pub peeled : (s′ : List ℤ) → tablesOf s′ ≡ peelTables ts n (tablesOf s) → AcceptedMesh n ts × Peeled n ts (labels n ts) s′
-  peeled = labelling L accepting
+  -- the darts' words are read as the mesh check has left them
+  meshed : Meshed ts (peeling s)
+  unfolding incidenceOf peelingOf
+  meshed = record { turns = accepting .turns; origins = accepting .origins }
+
+  pub can-peel : (m : ℕ) → m ≡ words → Room n m × HasMesh n (peeling s)
+  can-peel m f = (rw f record { least = L .least; most = L .most; room = L .room }, has-mesh n ts (peeling s) sphere (L .triangles) meshed)
+
+  pub peeled : (s′ : List ℤ) → length s′ ≡ words → peeling s′ ≡ peelTables n (peeling s) → AcceptedMesh n ts × Peeled n ts (labels n ts) s′
+  peeled s′ l f =
+      (accepting-mesh L accepting, peeled-tables n ts sphere (L .triangles) (L .most) (peeling s) meshed s′ (rw l (L .room)) f)
 
 pub labelled-refused : (n : ℕ) (ts : List ℕ) (s : List ℤ) (a : MeshAnswer) (why : Refusal) → a ≡ Refused why → Labelling n ts s a →
     firstRefusal (meshRows n ts) ≡ some (toRefusal (refusalIn a))
@@ -104,24 +77,6 @@ same-default [] k a b h = absurd (omega arith)
 same-default (x ∷ xs) zero a b h = refl
 same-default (x ∷ xs) (suc k) a b h = same-default xs k a b (omega arith)
 
--- the loop that writes them: the first i are written, ls is the lent slice
-pub record Writing (op : ℕ → ℕ) (ls ls′ : List ℕ) (i : ℕ) : Type 0 where
-  pub long : length ls′ ≡ length ls
-  pub done : (k : ℕ) → k < i → getD ls′ k 0 ≡ labelIn op (k + 3)
-
-pub writing-none : (op : ℕ → ℕ) (ls : List ℕ) → Writing op ls ls 0
-writing-none op ls = record { long = refl; done = λ k h. absurd (omega arith) }
-
-pub writing-more : (op : ℕ → ℕ) (ls ls′ : List ℕ) (i x : ℕ) → i < length ls′ → x ≡ labelIn op (i + 3) → Writing op ls ls′ i →
-    Writing op ls (set ls′ i x) (i + 1)
-writing-more op ls ls′ i x h e w = record {
-  long = length-set ls′ i x ∙ w .long;
-  done = λ k q. elim (ℕ-discrete k i) [
-    | yes p ↦ rw p (getD-set-same ls′ i x 0 h ∙ e)
-    | no p ↦ getD-set-other ls′ i k x 0 p ∙ w .done k (omega (arith, p))
-  ];
-}
-
 module _ (n : ℕ) (ts : List ℕ) (s : List ℤ) (P : Peeled n ts (labels n ts) s) where
   long : length (labels n ts) ≡ labelsLength n
   long = labels-exact n ts (P .labelled .sphere) (P .labelled .size)
@@ -131,16 +86,23 @@ module _ (n : ℕ) (ts : List ℕ) (s : List ℤ) (P : Peeled n ts (labels n ts)
   past-outer ls k = rw (add-three k)
 
   -- corner k + 3 has the k-th label
-  read : (k : ℕ) → k < labelsLength n → labelIn (tablesOf s .op) (k + 3) ≡ getD (labels n ts) k 0
+  read : (k : ℕ) → k < labelsLength n → labelIn (peeling s) (k + 3) ≡ getD (labels n ts) k 0
   read k h =
       labelIn-is (P .labelled) (k + 3) (omega (arith, P .labelled .size)) ∙ past-outer (labels n ts) k
       ∙ same-default (labels n ts) k 3 0 (omega (arith, long))
 
-  pub fits : (ls : List ℕ) → length ls ≡ labelsLength n → (k : ℕ) → k < length ls → labelIn (tablesOf s .op) (k + 3) < 256
-  fits ls e k h =
-      let i : k < length (labels n ts) = omega (arith, long) in
-      omega (arith, read k (omega arith), labels-below n ts (P .labelled .sphere) (P .labelled .size) (getD (labels n ts) k 0) (getD-in (labels n ts) k 0 i))
+  -- each inner triangle has its word
+  pub can-write : (ls : List ℕ) → length ls ≡ labelsLength n
+      → (length ls % 3 ≡ 0) × ((t : ℕ) → 3 * t < length ls → Readable (peeling s) (length s) t)
+  can-write ls e = (
+    omega arith,
+    λ t h. record {
+      room = omega (arith, P .labelled .room);
+      small = omega (arith, P .labelled .most);
+      corner = P .labelled .apexes (t + 1) (omega arith) (omega (arith, P .labelled .size));
+    },
+  )
 
-  pub written : (ls : List ℕ) → length ls ≡ labelsLength n → ((k : ℕ) → k < length ls → getD ls k 0 ≡ labelIn (tablesOf s .op) (k + 3)) →
+  pub written : (ls : List ℕ) → length ls ≡ labelsLength n → ((k : ℕ) → k < length ls → getD ls k 0 ≡ labelIn (peeling s) (k + 3)) →
       ls ≡ labels n ts
   written ls e f = ext-getD 0 ls (labels n ts) (e ∙ sym long) (λ k h. f k h ∙ read k (omega (arith, e)))

@@ -8,11 +8,8 @@ use mesh_answer::refusal_of;
 use mesh_check::examine;
 use scratch_tables::clear;
 ghost use mathlib.Core.Path.{_≡_};
-ghost use Prim.Native.Nat.{ℕ, _+_, _<_};
-ghost use lib.ListN.{length, getD};
+ghost use lib.ListN.{length};
 ghost use Rattle.definitions.specs.Refusals.{labelsCall};
-ghost use Rattle.scratch_tables.specs.Tables.{tablesOf};
-ghost use Rattle.labels_tables.specs.LabelledTables.{labelIn};
 ghost use Rattle.mesh_check.specs.Stages.{Lent};
 ghost use Rattle.labels_call.specs.Answer.{labelsToAnswer};
 ghost use Rattle.labels_call.specs.CallOutcomes.{LabelsFit};
@@ -34,20 +31,8 @@ pub fn label_mesh(n: usize, triangles: &[u16], scratch: &mut [i64]) -> MeshAnswe
     let MeshAnswer::Accepted = examined else {
         return examined;
     };
-    labels_peel::peel(n, triangles, scratch);
+    labels_peel::peel(n, scratch);
     MeshAnswer::Accepted
-}
-
-// the labels from corner 3 on, which is the first of an inner triangle
-fn write_labels(labels: &mut [u8], scratch: &[i64])
-    requires { ⌜ ((k : ℕ) → k < length (now labels) → labelIn (tablesOf (now scratch) .op) (k + 3) < 256) ⌝ }
-    ensures { λ r. ⌜ ((k : ℕ) → k < length (now (labels .exit)) → getD (now (labels .exit)) k 0 ≡ labelIn (tablesOf (now (scratch .entry)) .op) (k + 3)) ⌝ }
-{
-    let mut i = 0;
-    while i < labels.len() {
-        labels[i] = labels_tables::label_of(scratch, i + 3) as u8;
-        i += 1;
-    }
 }
 
 // Rows 3 to 8, and the labels. Nothing is said of scratch: the call clears it.
@@ -60,7 +45,7 @@ fn run_labels(n: usize, triangles: &[u16], labels: &mut [u8], scratch: &mut [i64
     let MeshAnswer::Accepted = labelled else {
         return LabelsAnswer::Refused(refusal_of(labelled));
     };
-    write_labels(labels, scratch);
+    labels_write::write_labels(labels, scratch);
     LabelsAnswer::Written
 }
 

@@ -16,10 +16,9 @@ use Rattle.laws.specs.Mapped.{filter-map}
 use Rattle.theory_sphere.specs.Sphere.{Sphere}
 use Rattle.theory_peeling.specs.Inside.{Path, path-split, path-end, path-tip, Inv}
 use Rattle.theory_peeling.specs.Vertices.{state}
-use Rattle.scratch_tables.specs.Tables.{Tables}
+use Rattle.labels_tables.specs.Peeling.{Peeling}
 use Rattle.labels_model.specs.NeighbourCounts.{tip-is, met}
-use Rattle.labels_model.specs.Model.{frontierDegree}
-use Rattle.labels_model.specs.Counters.{Beside}
+use Rattle.labels_model.specs.Counters.{Beside, Meshed, meshed-beside}
 use Rattle.labels_model.specs.FrontierInsert.{Marked}
 use Rattle.labels_model.specs.LabelTriangle.{Coded}
 
@@ -74,21 +73,22 @@ pub false-on : (ts D : List ℕ) (w : ℕ) → ((x : ℕ) → x ∈ opp ts 2 ∷
 false-on ts D w h = false-elem w (map (org ts) (opp ts 2 ∷ D)) (λ m. let r = Memᴰ·of-map (org ts) (opp ts 2 ∷ D) m in h (r .0) (r .1) (sym (r .2)))
 
 -- What the tables hold of a peeling that has removed R, has the frontier's darts D and has passed P.
-pub record Stood (n : ℕ) (ts R D P : List ℕ) (t : Tables) : Type 0 where
-  pub coded : Coded ts P t
+pub record Stood (n : ℕ) (ts R D P : List ℕ) (t : Peeling) : Type 0 where
+  pub meshed : Meshed ts t
+  pub coded : Coded P t
   pub marked : Marked n ts (on ts D) t
-  pub heads : (x : ℕ) → x ∈ D → t .head (org ts x) ≡ x
-  pub counts : (x : ℕ) → x ∈ D → t .count (tip ts x) ≡ x
+  pub lefts : (x : ℕ) → x ∈ D → t .left (org ts x) ≡ x
+  pub rights : (x : ℕ) → x ∈ D → t .right (tip ts x) ≡ x
   pub old : (x : ℕ) → x ∈ P → org ts x ∈ R
 
-pub stood-same : {n : ℕ} {ts R D P : List ℕ} {t t′ : Tables} → Beside t t′ → ((x : ℕ) → frontierDegree t′ x ≡ frontierDegree t x) →
-    Stood n ts R D P t → Stood n ts R D P t′
-stood-same {ts = ts} b e st =
+pub stood-same : {n : ℕ} {ts R D P : List ℕ} {t t′ : Peeling} → Beside t t′ → t′ .degree ≡ t .degree → Stood n ts R D P t → Stood n ts R D P t′
+stood-same b e st =
     record {
-      coded = λ d h. b .ops d ∙ st .coded d h;
-      marked = λ w h. e w ∙ st .marked w h;
-      heads = λ x m. b .heads (org ts x) ∙ st .heads x m;
-      counts = λ x m. b .counts (tip ts x) ∙ st .counts x m;
+      meshed = meshed-beside b (st .meshed);
+      coded = rw (b .apexes) (st .coded);
+      marked = rw e (st .marked);
+      lefts = rw (b .lefts) (st .lefts);
+      rights = rw (b .rights) (st .rights);
       old = st .old;
     }
 

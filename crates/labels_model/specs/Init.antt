@@ -1,54 +1,63 @@
--- The start of the stage: with the opposites in the tables, its stores make them those of a peeling that has removed nothing. Assumes nothing.
+-- The start of the stage: with the mesh in the tables, its stores make them those of a peeling that has removed nothing. Assumes nothing.
 use Prim.Native.Nat.{ℕ, zero, suc, _+_, _*_, _/_, _≤_, _<_}
 use mathlib.Core.Path.{_≡_, refl, sym, ap, _∙_}
-use mathlib.Core.Logic.{inl, inr}
-use mathlib.Core.Bool.{Bool, false, _||_, cond}
+use mathlib.Core.Logic.{_≢_, inl, inr}
+use mathlib.Core.Bool.{Bool, true, false, _||_}
 use mathlib.Core.List.{List, [], _∷_, List·Memᴰ·not-nil, List·Memᴰ·cases-cons, List·Memᴰ·eq-of-singleton}
 use native.Mathlib.Omega.{arith}
 use native.Mathlib.Decide.{ℕ-discrete}
 use lib.Dec.{eqb}
 use lib.ListN.{length}
-use borrow.Author.Tests.{lt-ltb, le-ltb, eq-eqb, ne-eqb}
+use borrow.Author.Tests.{eq-eqb, ne-eqb}
 use Rattle.definitions.specs.Lists.{any, elem}
-use Rattle.definitions.specs.Mesh.{next, org, tip, opp, outgoing}
-use Rattle.laws.specs.Lists.{_∈_, tested, filter-none}
+use Rattle.definitions.specs.Mesh.{next, prev, org, tip, opp, outgoing}
+use Rattle.laws.specs.Lists.{_∈_, filter-none}
+use Rattle.laws.specs.Counting.{nil}
 use Rattle.theory_sphere.specs.Sphere.{Sphere}
 use Rattle.theory_sphere.specs.Rotations.{tip-opp}
 use Rattle.theory_peeling.specs.Inside.{three, org-opp0, org-opp1, org-opp2, proper01, proper12, proper20}
-use Rattle.scratch_tables.specs.Tables.{Tables, upd, upd-same, upd-other, setOp, setHead, setCount, setMark}
-use Rattle.labels_tables.specs.LabelledTables.{oppositeIn}
-use Rattle.labels_model.specs.Model.{frontierDegree, blockBound, groupBound, globalBound, dartWord, addFrontierDart, clearDegrees}
-use Rattle.labels_model.specs.Model.{initDegrees, initFrontier, initLabels, init}
-use Rattle.labels_model.specs.NeighbourCounts.{tip-is, met, met-most, joins, met-add, joins-none, joins-both, joins-one}
-use Rattle.labels_model.specs.Counters.{mark-same, mark-other}
-use Rattle.labels_model.specs.MinSearch.{Bounded}
+use Rattle.theory_peeling.specs.Inside as Invariant
+use Rattle.scratch_tables.specs.Tables.{upd, upd-same, upd-other}
+use Rattle.labels_tables.specs.Peeling.{Peeling, setVertex, setDegree, setLeft, setRight}
+use Rattle.labels_search.specs.Sets.{emptied, addTo, add-summed, add-member, empty-summed}
+use Rattle.labels_search.specs.Stores.{withSets}
+use Rattle.labels_model.specs.Model.{addCandidate, addFrontierDart, isRemovable, clearVertices, initDegrees, initFrontier, initSets, init}
+use Rattle.labels_model.specs.NeighbourCounts.{tip-is, met, joins, met-add, joins-none, joins-both, joins-one}
+use Rattle.labels_model.specs.Counters.{Beside, beside-then, Meshed, meshed-kept, setDegree-same, setDegree-other, withSets-beside}
+use Rattle.labels_model.specs.Counters.{addCandidate-beside}
+use Rattle.labels_model.specs.Candidates.{can-true}
 use Rattle.labels_model.specs.FrontierInsert.{Marked}
-use Rattle.labels_model.specs.LabelTriangle.{code, Coded}
 use Rattle.labels_model.specs.LabelFan.{marked-same}
-use Rattle.labels_model.specs.FrontierInvariant.{on, Stood}
+use Rattle.labels_model.specs.FrontierInvariant.{on, Stood, stood-same}
+use Rattle.labels_model.specs.Simulation.{Standing}
 
--- ---- the marks are wiped, and nothing else is
+-- ---- the vertices' words are wiped, and nothing else is
 
-clearDegrees-op : (k v : ℕ) (t : Tables) (d : ℕ) → clearDegrees k v t .op d ≡ t .op d
-unfolding clearDegrees setMark
-clearDegrees-op zero v t d = refl
-clearDegrees-op (suc k) v t d = clearDegrees-op k (suc v) (setMark (2 * v) 0 t) d
+pub clear-turn : (k v : ℕ) (t : Peeling) → clearVertices k v t .turn ≡ t .turn
+unfolding clearVertices setVertex
+clear-turn zero v t = refl
+clear-turn (suc k) v t = clear-turn k (suc v) (setVertex v 0 0 0 t)
 
-clearDegrees-beside : (k v : ℕ) (t : Tables) (w : ℕ) → w < v → clearDegrees k v t .mark (2 * w) ≡ t .mark (2 * w)
-unfolding clearDegrees
-clearDegrees-beside zero v t w h = refl
-clearDegrees-beside (suc k) v t w h = clearDegrees-beside k (suc v) (setMark (2 * v) 0 t) w (omega arith) ∙ mark-other (2 * v) (2 * w) 0 t (omega arith)
+pub clear-origin : (k v : ℕ) (t : Peeling) → clearVertices k v t .origin ≡ t .origin
+unfolding clearVertices setVertex
+clear-origin zero v t = refl
+clear-origin (suc k) v t = clear-origin k (suc v) (setVertex v 0 0 0 t)
 
-clearDegrees-mark : (k v : ℕ) (t : Tables) (w : ℕ) → v ≤ w → w < v + k → clearDegrees k v t .mark (2 * w) ≡ 0
-unfolding clearDegrees
-clearDegrees-mark zero v t w h l = absurd (omega arith)
-clearDegrees-mark (suc k) v t w h l =
+clear-before : (k v : ℕ) (t : Peeling) (w : ℕ) → w < v → clearVertices k v t .degree w ≡ t .degree w
+unfolding clearVertices setVertex
+clear-before zero v t w h = refl
+clear-before (suc k) v t w h = clear-before k (suc v) (setVertex v 0 0 0 t) w (omega arith) ∙ upd-other v w 0 (t .degree) (omega arith)
+
+clear-degree : (k v : ℕ) (t : Peeling) (w : ℕ) → v ≤ w → w < v + k → clearVertices k v t .degree w ≡ 0
+unfolding clearVertices setVertex
+clear-degree zero v t w h l = absurd (omega arith)
+clear-degree (suc k) v t w h l =
     elim (ℕ-discrete w v) [
-      | yes q ↦ rw q (clearDegrees-beside k (suc v) (setMark (2 * v) 0 t) v (omega arith) ∙ mark-same (2 * v) 0 t)
-      | no q ↦ clearDegrees-mark k (suc v) (setMark (2 * v) 0 t) w (omega arith) (omega arith)
+      | yes q ↦ rw q (clear-before k (suc v) (setVertex v 0 0 0 t) v (omega arith) ∙ upd-same v 0 (t .degree))
+      | no q ↦ clear-degree k (suc v) (setVertex v 0 0 0 t) w (omega arith) (omega arith)
     ]
 
-module _ (n : ℕ) (ts : List ℕ) (s : Sphere n (length ts / 3) (org ts) (opp ts)) (len : 3 * (length ts / 3) ≡ length ts) (few : length ts < 32000) where
+module _ (n : ℕ) (ts : List ℕ) (s : Sphere n (length ts / 3) (org ts) (opp ts)) (len : 3 * (length ts / 3) ≡ length ts) where
   abbrev T : ℕ
   T = length ts / 3
 
@@ -119,58 +128,45 @@ module _ (n : ℕ) (ts : List ℕ) (s : Sphere n (length ts / 3) (org ts) (opp t
 
   -- ---- the tables
 
-  module _ (t : Tables) (opposed : (d : ℕ) → d < length ts → t .op d ≡ opp ts d) where
-    abbrev t₁ : Tables
-    t₁ = initDegrees ts (clearDegrees n 0 t)
+  module _ (t : Peeling) (mesh : Meshed ts t) where
+    abbrev a : Peeling
+    a = clearVertices n 0 t
 
-    exact₁ : (w : ℕ) → w < n → t₁ .mark (2 * w) ≡ cond (F w) (suc (met ts F w)) 0
+    mesh₀ : Meshed ts a
+    mesh₀ = meshed-kept (clear-turn n 0 t) (clear-origin n 0 t) mesh
+
+    origin₀ : (d : ℕ) → d < 3 → a .origin d ≡ o d
+    origin₀ d h = mesh₀ .origins d (omega (arith, three-in d h))
+
+    abbrev t₁ : Peeling
+    t₁ = initDegrees a
+
+    degrees-are : t₁ ≡ setDegree (o 2) 3 (setDegree (o 1) 3 (setDegree (o 0) 3 a))
     unfolding initDegrees
-    exact₁ w h =
-        let a = clearDegrees n 0 t in
-        let b = setMark (2 * o 0) 3 a in
-        let c = setMark (2 * o 1) 3 b in
-        elim (ℕ-discrete w (o 2)) [
-          | yes q ↦ rw (q, ne-eqb (o 2) (o 0) (proper20 s), ne-eqb (o 2) (o 1) (λ e. proper12 s (sym e)), eq-eqb (o 2) (o 2) refl) (mark-same (2 * o 2) 3 c
-              ∙ omega (arith, met2))
-          | no q ↦
-              mark-other (2 * o 2) (2 * w) 3 c (omega arith) ∙ elim (ℕ-discrete w (o 1)) [
-                | yes r ↦ rw (r, ne-eqb (o 1) (o 0) (λ e. proper01 s (sym e)), eq-eqb (o 1) (o 1) refl) (mark-same (2 * o 1) 3 b ∙ omega (arith, met1))
-                | no r ↦
-                    mark-other (2 * o 1) (2 * w) 3 b (omega arith) ∙ elim (ℕ-discrete w (o 0)) [
-                      | yes p ↦ rw (p, eq-eqb (o 0) (o 0) refl) (mark-same (2 * o 0) 3 a ∙ omega (arith, met0))
-                      | no p ↦ rw (ne-eqb w (o 0) p, ne-eqb w (o 1) r, ne-eqb w (o 2) q) (mark-other (2 * o 0) (2 * w) 3 a (omega arith)
-                          ∙ clearDegrees-mark n 0 t w (omega arith) (omega arith))
-                    ]
-              ]
-        ]
+    degrees-are = rw (origin₀ 0 (omega arith), origin₀ 1 (omega arith), origin₀ 2 (omega arith))
 
-    -- with no bound above them yet
-    small₁ : (w : ℕ) → w < n → t₁ .mark (2 * w) < 65536
-    small₁ w h =
-        elim (tested (F w)) [
-          | inl e ↦ omega (arith, rw e at (exact₁ w h), met-most ts F w)
-          | inr e ↦ omega (arith, rw e at (exact₁ w h))
-        ]
+    mesh₁ : Meshed ts t₁
+    unfolding initDegrees setDegree
+    mesh₁ = meshed-kept refl refl mesh₀
 
     marks₁ : Marked n ts F t₁
-    unfolding frontierDegree
-    marks₁ w h = omega (arith, exact₁ w h, small₁ w h)
-
-    bounds₁ : (b : ℕ) → b < n → (blockBound t₁ b ≡ 0) × (groupBound t₁ b ≡ 0)
-    unfolding blockBound groupBound
-    bounds₁ b h = omega (arith, small₁ b h)
-
-    root₁ : globalBound t₁ ≡ 0
-    unfolding globalBound
-    root₁ = omega (arith, small₁ 0 (omega (arith, s .least)))
-
-    op₁ : (d : ℕ) → d < length ts → t₁ .op d ≡ opp ts d
-    unfolding initDegrees setMark
-    op₁ d h = clearDegrees-op n 0 t d ∙ opposed d h
-
-    behind₁ : (d : ℕ) → d < length ts → oppositeIn (t₁ .op) d ≡ opp ts d
-    unfolding oppositeIn
-    behind₁ d h = omega (arith, op₁ d h, s .dart d (omega arith), len, few)
+    marks₁ w h =
+        let b = setDegree (o 0) 3 a in
+        let c = setDegree (o 1) 3 b in
+        rw degrees-are (elim (ℕ-discrete w (o 2)) [
+          | yes q ↦ rw (q, ne-eqb (o 2) (o 0) (proper20 s), ne-eqb (o 2) (o 1) (λ e. proper12 s (sym e)), eq-eqb (o 2) (o 2) refl) (setDegree-same (o 2) 3 c
+              ∙ omega (arith, met2))
+          | no q ↦
+              setDegree-other (o 2) 3 c w q ∙ elim (ℕ-discrete w (o 1)) [
+                | yes r ↦ rw (r, ne-eqb (o 1) (o 0) (λ e. proper01 s (sym e)), eq-eqb (o 1) (o 1) refl) (setDegree-same (o 1) 3 b ∙ omega (arith, met1))
+                | no r ↦
+                    setDegree-other (o 1) 3 b w r ∙ elim (ℕ-discrete w (o 0)) [
+                      | yes p ↦ rw (p, eq-eqb (o 0) (o 0) refl) (setDegree-same (o 0) 3 a ∙ omega (arith, met0))
+                      | no p ↦ rw (ne-eqb w (o 0) p, ne-eqb w (o 1) r, ne-eqb w (o 2) q) (setDegree-other (o 0) 3 a w p
+                          ∙ clear-degree n 0 t w (omega arith) (omega arith))
+                    ]
+              ]
+        ])
 
     abbrev x : ℕ
     x = opp ts 0
@@ -178,8 +174,8 @@ module _ (n : ℕ) (ts : List ℕ) (s : Sphere n (length ts / 3) (org ts) (opp t
     abbrev y : ℕ
     y = opp ts 1
 
-    abbrev t₂ : Tables
-    t₂ = initFrontier ts t₁
+    abbrev t₂ : Peeling
+    t₂ = initFrontier t₁
 
     tipx : tip ts x ≡ o 0
     tipx = tip-is ts x ∙ tip-opp s 0 (three-in 0 (omega arith))
@@ -187,100 +183,120 @@ module _ (n : ℕ) (ts : List ℕ) (s : Sphere n (length ts / 3) (org ts) (opp t
     tipy : tip ts y ≡ o 1
     tipy = tip-is ts y ∙ tip-opp s 1 (three-in 1 (omega arith))
 
+    origin₁ : (d : ℕ) → d < 3 → t₁ .origin d ≡ o d
+    origin₁ d h = mesh₁ .origins d (omega (arith, three-in d h))
+
+    turn1 : t₁ .turn 1 ≡ x
+    unfolding prev
+    turn1 = mesh₁ .turns 1 (omega (arith, three-in 1 (omega arith)))
+
+    turn2 : t₁ .turn 2 ≡ y
+    unfolding prev
+    turn2 = mesh₁ .turns 2 (omega (arith, three-in 2 (omega arith)))
+
     edges-are : t₂ ≡ addFrontierDart (o y) (tip ts y) y (addFrontierDart (o x) (tip ts x) x t₁)
     unfolding initFrontier
     edges-are = rw (
-      behind₁ 0 (omega (arith, three-in 0 (omega arith))),
-      behind₁ 1 (omega (arith, three-in 1 (omega arith))),
+      turn1,
+      turn2,
+      origin₁ 0 (omega arith),
+      origin₁ 1 (omega arith),
+      origin₁ 2 (omega arith),
       org-opp0 s,
       org-opp1 s,
       tipx,
       tipy,
     )
 
-    heads₂ : (d : ℕ) → d ∈ D → t₂ .head (o d) ≡ d
-    unfolding addFrontierDart setHead setCount
-    heads₂ d m =
+    lefts₂ : (d : ℕ) → d ∈ D → t₂ .left (o d) ≡ d
+    unfolding addFrontierDart setLeft setRight
+    lefts₂ d m =
         rw edges-are (elim (List·Memᴰ·cases-cons m) [
-          | inl q ↦ rw q (upd-other (o y) (o x) y (upd (o x) x (t₁ .head)) (λ e. proper12 s (sym (org-opp0 s) ∙ e ∙ org-opp1 s))
-              ∙ upd-same (o x) x (t₁ .head))
-          | inr k ↦ let q : d ≡ y = List·Memᴰ·eq-of-singleton k in rw q (upd-same (o y) y (upd (o x) x (t₁ .head)))
+          | inl q ↦ rw q (upd-other (o y) (o x) y (upd (o x) x (t₁ .left)) (λ e. proper12 s (sym (org-opp0 s) ∙ e ∙ org-opp1 s))
+              ∙ upd-same (o x) x (t₁ .left))
+          | inr k ↦ let q : d ≡ y = List·Memᴰ·eq-of-singleton k in rw q (upd-same (o y) y (upd (o x) x (t₁ .left)))
         ])
 
-    counts₂ : (d : ℕ) → d ∈ D → t₂ .count (tip ts d) ≡ d
-    unfolding addFrontierDart setHead setCount
-    counts₂ d m =
+    rights₂ : (d : ℕ) → d ∈ D → t₂ .right (tip ts d) ≡ d
+    unfolding addFrontierDart setLeft setRight
+    rights₂ d m =
         rw edges-are (elim (List·Memᴰ·cases-cons m) [
-          | inl q ↦ rw q (upd-other (tip ts y) (tip ts x) y (upd (tip ts x) x (t₁ .count)) (λ e. proper01 s (sym tipx ∙ e ∙ tipy))
-              ∙ upd-same (tip ts x) x (t₁ .count))
-          | inr k ↦ let q : d ≡ y = List·Memᴰ·eq-of-singleton k in rw q (upd-same (tip ts y) y (upd (tip ts x) x (t₁ .count)))
+          | inl q ↦ rw q (upd-other (tip ts y) (tip ts x) y (upd (tip ts x) x (t₁ .right)) (λ e. proper01 s (sym tipx ∙ e ∙ tipy))
+              ∙ upd-same (tip ts x) x (t₁ .right))
+          | inr k ↦ let q : d ≡ y = List·Memᴰ·eq-of-singleton k in rw q (upd-same (tip ts y) y (upd (tip ts x) x (t₁ .right)))
         ])
 
-    op₂ : (d : ℕ) → d < length ts → t₂ .op d ≡ opp ts d
-    unfolding addFrontierDart setHead setCount
-    op₂ d h = ap (λ (u : Tables). u .op d) edges-are ∙ op₁ d h
+    degree₂ : t₂ .degree ≡ t₁ .degree
+    unfolding initFrontier addFrontierDart setLeft setRight
+    degree₂ = refl
 
-    marks₂ : Marked n ts F t₂
-    unfolding frontierDegree addFrontierDart setHead setCount
-    marks₂ w h = ap (λ (u : Tables). frontierDegree u w) edges-are ∙ marks₁ w h
-
-    bounds₂ : (b : ℕ) → b < n → (blockBound t₂ b ≡ 0) × (groupBound t₂ b ≡ 0)
-    unfolding blockBound groupBound addFrontierDart setHead setCount
-    bounds₂ b h = (ap (λ (u : Tables). blockBound u b) edges-are ∙ bounds₁ b h .0, ap (λ (u : Tables). groupBound u b) edges-are ∙ bounds₁ b h .1)
-
-    root₂ : globalBound t₂ ≡ 0
-    unfolding globalBound addFrontierDart setHead setCount
-    root₂ = ap globalBound edges-are ∙ root₁
-
-    abbrev t₃ : Tables
-    t₃ = initLabels t₂
-
-    behind₂ : (d : ℕ) → d < length ts → oppositeIn (t₂ .op) d ≡ opp ts d
-    unfolding oppositeIn
-    behind₂ d h = omega (arith, op₂ d h, s .dart d (omega arith), len, few)
-
-    outer-code : (d : ℕ) → d < 3 → code [] d ≡ 3
-    unfolding code
-    outer-code d h = rw (lt-ltb d 3 h)
-
-    inner-code : (d : ℕ) → 3 ≤ d → code [] d ≡ 0
-    unfolding code elem any
-    inner-code d h = rw (le-ltb d 3 h)
-
-    coded₃ : Coded ts [] t₃
-    unfolding initLabels setOp
-    coded₃ d h =
-        let a = upd 0 (dartWord (oppositeIn (t₂ .op) 0) 3) (t₂ .op) in
-        let b = upd 1 (dartWord (oppositeIn (t₂ .op) 1) 3) a in
-        elim (ℕ-discrete d 2) [
-          | yes q ↦ rw (q, outer-code 2 (omega arith)) (upd-same 2 (dartWord (oppositeIn (t₂ .op) 2) 3) b
-              ∙ omega (arith, behind₂ 2 (omega (arith, three-in 2 (omega arith)))))
-          | no q ↦
-              upd-other 2 d (dartWord (oppositeIn (t₂ .op) 2) 3) b q ∙ elim (ℕ-discrete d 1) [
-                | yes r ↦ rw (r, outer-code 1 (omega arith)) (upd-same 1 (dartWord (oppositeIn (t₂ .op) 1) 3) a
-                    ∙ omega (arith, behind₂ 1 (omega (arith, three-in 1 (omega arith)))))
-                | no r ↦
-                    upd-other 1 d (dartWord (oppositeIn (t₂ .op) 1) 3) a r ∙ elim (ℕ-discrete d 0) [
-                      | yes p ↦ rw (p, outer-code 0 (omega arith)) (upd-same 0 (dartWord (oppositeIn (t₂ .op) 0) 3) (t₂ .op)
-                          ∙ omega (arith, behind₂ 0 (omega (arith, three-in 0 (omega arith)))))
-                      | no p ↦ upd-other 0 d (dartWord (oppositeIn (t₂ .op) 0) 3) (t₂ .op) p ∙ omega (arith, op₂ d h, inner-code d (omega arith))
-                    ]
-              ]
-        ]
+    mesh₂ : Meshed ts t₂
+    unfolding initFrontier addFrontierDart setLeft setRight
+    mesh₂ = meshed-kept refl refl mesh₁
 
     -- the tables of a peeling that has removed nothing
-    pub begun : Stood n ts [] D [] (init ts n t)
-    unfolding frontierDegree init initLabels setOp
-    begun =
-        record {
-          coded = coded₃;
-          marked = marked-same n ts F (on ts D) t₃ F-on marks₂;
-          heads = heads₂;
-          counts = counts₂;
-          old = λ z m. absurd (List·Memᴰ·not-nil m);
-        }
+    stood₂ : Stood n ts [] D [] t₂
+    stood₂ = record {
+      meshed = mesh₂;
+      coded = λ z m. absurd (List·Memᴰ·not-nil m);
+      marked = marked-same n ts F (on ts D) t₂ F-on (rw degree₂ marks₁);
+      lefts = lefts₂;
+      rights = rights₂;
+      old = λ z m. absurd (List·Memᴰ·not-nil m);
+    }
 
-    -- whose bounds are all 0
-    pub begun-bounded : Bounded ts n (init ts n t)
-    unfolding blockBound groupBound globalBound init initLabels setOp
-    begun-bounded x h c = omega (arith, bounds₂ (x / 16) (omega arith) .0, bounds₂ (x / 256) (omega arith) .1, root₂)
+    -- with v2 as its candidate
+    abbrev e : Peeling
+    e = withSets (emptied n (t₂ .sets)) t₂
+
+    abbrev t₃ : Peeling
+    t₃ = init n t
+
+    sets-are : t₃ ≡ addCandidate n (o 1) e
+    unfolding init initSets
+    sets-are = ap (λ (v : ℕ). addCandidate n v e) (mesh₂ .origins 1 (omega (arith, three-in 1 (omega arith))))
+
+    abbrev f : ℕ → ℕ
+    f = emptied n (t₂ .sets)
+
+    beside₃ : Beside t₂ t₃
+    beside₃ = rw sets-are (beside-then (withSets-beside f t₂) (addCandidate-beside n (o 1) e))
+
+    sets₃ : t₃ .sets ≡ addTo n (o 1) f
+    unfolding addCandidate withSets
+    sets₃ = ap (λ (p : Peeling). p .sets) sets-are
+
+    degree₃ : t₃ .degree ≡ t₂ .degree
+    unfolding addCandidate withSets
+    degree₃ = ap (λ (p : Peeling). p .degree) sets-are
+
+    stood₃ : Stood n ts [] D [] t₃
+    stood₃ = stood-same beside₃ degree₃ stood₂
+
+    v2-in : o 1 < n
+    v2-in = s .vertex 1 (three-in 1 (omega arith))
+
+    -- of the vertices with a degree only v2 is neither v0 nor v1
+    only-v2 : (w : ℕ) → w < n → isRemovable t₃ w ≡ true → w ≡ o 1
+    only-v2 w h r =
+        let c = can-true t₃ w r in
+        let d : t₁ .degree w ≡ 3 = sym (ap (λ (g : ℕ → ℕ). g w) (degree₃ ∙ degree₂)) ∙ c .0 in
+        let a0 : w ≢ o 0 = λ q. c .1 (q ∙ sym (stood₃ .meshed .origins 0 (omega (arith, three-in 0 (omega arith))))) in
+        let a2 : w ≢ o 2 = λ q. c .2 (q ∙ sym (stood₃ .meshed .origins 2 (omega (arith, three-in 2 (omega arith))))) in
+        elim (ℕ-discrete w (o 1)) [
+          | yes q ↦ q
+          | no q ↦ absurd (omega (arith, d, rw (ne-eqb w (o 0) a0, ne-eqb w (o 1) q, ne-eqb w (o 2) a2) at (marks₁ w h)))
+        ]
+
+    pub begun : n ≤ 4096 → Standing n ts s len 0 [] D [] t₃
+    begun most = record {
+      inv = Invariant.start s;
+      distinct = nil;
+      below = λ z m. absurd (List·Memᴰ·not-nil m);
+      many = refl;
+      stood = stood₃;
+      candidates = record {
+        summed = rw sets₃ (add-summed n f (o 1) v2-in (empty-summed n (t₂ .sets) most));
+        all = λ w h k r. rw (sets₃, add-member n f (o 1) v2-in w h, eq-eqb w (o 1) (only-v2 w h r)) refl;
+      };
+    }

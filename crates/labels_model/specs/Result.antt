@@ -1,38 +1,48 @@
--- The whole stage: with an accepted mesh's opposites in the tables it leaves the labels of the definition and the trace of its peeling.
+-- The whole stage: with an accepted mesh in the tables it leaves the labels of the definition and the trace of its peeling.
 -- Assumes nothing.
-use Prim.Native.Nat.{ℕ, _+_, _-_, _*_, _/_, _≤_, _<_}
-use mathlib.Core.Path.{_≡_, refl, sym, ap, _∙_}
-use mathlib.Core.Logic.{_≢_, _⊎_, inl, inr}
-use mathlib.Core.Bool.{false}
+use Prim.Native.Nat.{ℕ, _+_, _-_, _*_, _/_, _%_, _≤_, _<_}
+use mathlib.Core.Path.{_≡_, sym, ap, _∙_}
+use mathlib.Core.Logic.{_⊎_, inl, inr}
 use mathlib.Core.List.{List, [], _∷_, List·Memᴰ·not-nil, List·Memᴰ·cases-cons, List·Memᴰ·eq-of-singleton}
 use native.Mathlib.Omega.{arith}
 use native.Mathlib.Decide.{decLt}
 use lib.ListN.{length}
 use lib.IntN.{ℤ}
-use borrow.Author.Tests.{lt-ltb, le-ltb}
-use Rattle.definitions.specs.Lists.{elem, iterate}
+use Rattle.definitions.specs.Lists.{iterate}
 use Rattle.definitions.specs.Mesh.{trianglesLength, tri, next, prev, org, opp}
-use Rattle.definitions.specs.Labels.{Peeling, outer, start, step, peel, labelOf, labels, label}
-use Rattle.laws.specs.Lists.{_∈_, true-elem, false-elem}
-use Rattle.laws.specs.Counting.{nil}
-use Rattle.laws.specs.Edges.{Dist, dist-same}
+use Rattle.definitions.specs.Labels.{Peeling as State, outer, start, step, peel, labelOf, labels, label}
+use Rattle.laws.specs.Lists.{_∈_}
+use Rattle.laws.specs.Edges.{Dist}
 use Rattle.theory_sphere.specs.Sphere.{Sphere}
-use Rattle.theory_sphere.specs.Darts.{tri-next, tri-prev, next-prev, next-next, next-other, prev-other, tri-below, corner-cases}
+use Rattle.theory_sphere.specs.Darts.{tri-below, corner-cases}
 use Rattle.theory_realizer.specs.Realizer.{Realizer}
 use Rattle.theory_peeling.specs.Inside.{org-opp0, org-opp1, org-opp2, three, inside-start}
-use Rattle.theory_peeling.specs.Inside as Invariant
 use Rattle.theory_peeling.specs.Peel.{Peel, trace, passes, fans-trace, removedVertices-trace, passes-inside, passes-all, gone-all}
 use Rattle.theory_peeling.specs.Vertices.{state, outer0, outer1, outer2, v0, v1}
 use Rattle.theory_peeling.specs.NeverStuck.{peel-is, passed-is, passed-all, passed-once}
 use Rattle.theory_peeling.specs.Colours.{coloured-trace, label-two}
 use Rattle.theory_peeling.specs.Realized.{realized}
 use Rattle.theory_peeling.specs.Labelled.{label-is, label-rule, passed-labels}
-use Rattle.labels_tables.specs.LabelledTables.{Peeled, outer-label}
-use Rattle.scratch_tables.specs.Tables.{Tables, tablesOf}
+use Rattle.labels_tables.specs.Peeling.{Peeling, peeling}
+use Rattle.labels_tables.specs.LabelledTables.{labelIn, Peeled, outer-label, inner-label, rim-label}
 use Rattle.labels_model.specs.Model.{init, peelTables}
-use Rattle.labels_model.specs.LabelTriangle.{inner-dart, dart-inner, code}
+use Rattle.labels_model.specs.Counters.{Meshed}
+use Rattle.labels_model.specs.LabelTriangle.{dart-inner, Coded}
 use Rattle.labels_model.specs.Simulation.{Followed, follow}
-use Rattle.labels_model.specs.Init.{begun, begun-bounded}
+use Rattle.labels_model.specs.Init.{begun}
+
+-- the labels of a triangle, by the corner g that has label 2
+module _ (g d a : ℕ) (e : a ≡ g % 3) where
+  label-here : d ≡ g → (d % 3 + 5 - a) % 3 ≡ 2
+  label-here q = omega arith
+
+  label-next : d ≡ next g → (d % 3 + 5 - a) % 3 ≡ 0
+  unfolding next
+  label-next q = omega arith
+
+  label-prev : d ≡ prev g → (d % 3 + 5 - a) % 3 ≡ 1
+  unfolding prev
+  label-prev q = omega arith
 
 module _ (n : ℕ) (ts : List ℕ) (s : Sphere n (length ts / 3) (org ts) (opp ts)) (exact : length ts ≡ trianglesLength n) (most : n ≤ 4096) where
   abbrev T : ℕ
@@ -46,9 +56,6 @@ module _ (n : ℕ) (ts : List ℕ) (s : Sphere n (length ts / 3) (org ts) (opp t
 
   len : 3 * T ≡ length ts
   len = omega (arith, exact)
-
-  few : length ts < 32000
-  few = omega (arith, exact)
 
   -- the frontier's darts at the start
   abbrev D : List ℕ
@@ -70,43 +77,33 @@ module _ (n : ℕ) (ts : List ℕ) (s : Sphere n (length ts / 3) (org ts) (opp t
   once : Dist tri P
   once = passed-once n ts s exact
 
-  other : (g d : ℕ) → g ∈ P → tri d ≡ tri g → d ≢ g → elem d P ≡ false
-  other g d m t ne = false-elem d P (λ k. ne (dist-same tri P once d g k m t))
+  -- the corner with label 2 of each inner triangle is the one that was passed
+  module _ (t : Peeling) (c : Coded P t) where
+    apex-of : (k : ℕ) → 0 < k → k < T → (g : ℕ) × (g ∈ P) × (tri g ≡ k) × (t .apex k ≡ g % 3)
+    apex-of k h l = let r = passed-all n ts s exact k h l in (r .0, r .1, r .2, ap (t .apex) (sym (r .2)) ∙ c (r .0) (r .1))
 
-  -- the numbers above 65536 in the triangle of a dart that is passed
-  codes : (g : ℕ) → g ∈ P → 0 < tri g → (code P g ≡ 2) × (code P (next g) ≡ 0) × (code P (prev g) ≡ 1)
-  unfolding code
-  codes g m h =
-      let a = true-elem m in
-      let b = other g (next g) m (tri-next g) (next-other g) in
-      let c = other g (prev g) m (tri-prev g) (prev-other g) in (
-        rw (le-ltb g 3 (inner-dart g h), a),
-        rw (le-ltb (next g) 3 (inner-dart (next g) (rw (tri-next g) h)), b, next-next g, c),
-        rw (le-ltb (prev g) 3 (inner-dart (prev g) (rw (tri-prev g) h)), c, next-prev g, a),
-      )
+    apex-small : (k : ℕ) → 0 < k → k < T → t .apex k < 3
+    apex-small k h l = omega (arith, apex-of k h l .3)
 
-  inner-code : (d : ℕ) → 3 ≤ d → d < length ts → code P d ≡ labelOf P d
-  inner-code d i h =
-      let t = passed-all n ts s exact (tri d) (dart-inner d i) (tri-below T d (omega (arith, len))) in
-      let g = t .0 in
-      let c = codes g (t .1) (rw (t .2) (dart-inner d i)) in
-      let l = label-rule P once g (t .1) in
-      elim (corner-cases g d (sym (t .2))) [
-        | inl e ↦ rw e (c .0 ∙ sym (l .0))
-        | inr q ↦ elim q [ inl e ↦ rw e (c .1 ∙ sym (l .1)) | inr e ↦ rw e (c .2 ∙ sym (l .2)) ]
-      ]
+    inner-is : (d : ℕ) → 3 ≤ d → d < length ts → labelIn t d ≡ labelOf P d
+    inner-is d i h =
+        let r = apex-of (tri d) (dart-inner d i) (tri-below T d (omega (arith, len))) in
+        let g = r .0 in
+        let l = label-rule P once g (r .1) in
+        inner-label t d i ∙ elim (corner-cases g d (sym (r .2))) [
+          | inl e ↦ label-here g d (t .apex (tri d)) (r .3) e ∙ sym (l .0) ∙ ap (labelOf P) (sym e)
+          | inr q ↦ elim q [
+            | inl e ↦ label-next g d (t .apex (tri d)) (r .3) e ∙ sym (l .1) ∙ ap (labelOf P) (sym e)
+            | inr e ↦ label-prev g d (t .apex (tri d)) (r .3) e ∙ sym (l .2) ∙ ap (labelOf P) (sym e)
+          ]
+        ]
 
-  outer-code : (d : ℕ) → d < 3 → code P d ≡ 3
-  unfolding code
-  outer-code d h = rw (lt-ltb d 3 h)
-
-  -- once every inner triangle has one dart passed the numbers above 65536 are the labels
-  code-is : (d : ℕ) → d < length ts → code P d ≡ label (labels n ts) d
-  code-is d h =
-      elim (decLt d 3) [
-        | yes l ↦ outer-code d l ∙ sym (outer-label (labels n ts) d l)
-        | no l ↦ let i : 3 ≤ d = omega arith in inner-code d i h ∙ sym (label-is n ts d i (omega (arith, len)))
-      ]
+    labels-are : (d : ℕ) → d < length ts → labelIn t d ≡ label (labels n ts) d
+    labels-are d h =
+        elim (decLt d 3) [
+          | yes l ↦ rim-label t d l ∙ sym (outer-label (labels n ts) d l)
+          | no l ↦ let i : 3 ≤ d = omega arith in inner-is d i h ∙ sym (label-is n ts d i (omega (arith, len)))
+        ]
 
   -- ---- the peeling that the work follows
 
@@ -156,32 +153,36 @@ module _ (n : ℕ) (ts : List ℕ) (s : Sphere n (length ts / 3) (org ts) (opp t
 
   -- ---- the stage
 
-  module _ (t : Tables) (opposed : (d : ℕ) → d < length ts → t .op d ≡ opp ts d) where
-    followed : Followed n ts s len few (n - 2) 0 [] D [] (init ts n t) (peelTables ts n t)
+  module _ (t : Peeling) (mesh : Meshed ts t) where
+    followed : Followed n ts s len (n - 2) 0 [] D [] (init n t) (peelTables n t)
     unfolding peelTables
-    followed =
-        follow n ts s len few (n - 2) 0 [] D [] (init ts n t) (Invariant.start s) nil (λ x m. absurd (List·Memᴰ·not-nil m)) refl
-        (omega (arith, s .least))
-        (begun n ts s len few t opposed) (begun-bounded n ts s len few t opposed)
+    followed = follow n ts s len (n - 2) 0 [] D [] (init n t) (begun n ts s len t mesh most) (omega (arith, s .least))
 
     same-passed : passes (followed .peel) ≡ P
     same-passed =
         let e : n - 2 ≡ n - 2 + 0 = omega arith in
         let a : iterate (step ts) (n - 2) (start ts) .passed
-        ≡ passes (followed .peel) = ap (λ (q : Peeling). q .passed) (ap (iterate (step ts) (n - 2)) start-is ∙ followed .ends) in
+        ≡ passes (followed .peel) = ap (λ (q : State). q .passed) (ap (iterate (step ts) (n - 2)) start-is ∙ followed .ends) in
         let b : iterate (step ts) (n - 2) (start ts) .passed ≡ P = ap (λ (k : ℕ). iterate (step ts) k (start ts) .passed) e
-        ∙ ap (λ (q : Peeling). q .passed) (peel-is n ts s exact 0) ∙ sym (passed-is n ts s exact) in
+        ∙ ap (λ (q : State). q .passed) (peel-is n ts s exact 0) ∙ sym (passed-is n ts s exact) in
         sym a ∙ b
 
-    pub peeled-tables : (z : List ℤ) → tablesOf z ≡ peelTables ts n t → Peeled n ts (labels n ts) z
+    coded : Coded P (peelTables n t)
+    coded = rw same-passed at (followed .coded)
+
+    pub peeled-tables : (z : List ℤ) → 10 * n ≤ length z → peeling z ≡ peelTables n t → Peeled n ts (labels n ts) z
     unfolding rules
-    peeled-tables z e =
+    peeled-tables z room e =
         record {
           labelled = record {
             most = most;
+            room = room;
             size = exact;
             sphere = s;
-            words = λ d h. rw e (followed .coded d h ∙ ap (λ (x : ℕ). opp ts d + 65536 * x) (rw same-passed (code-is d h)));
+            turns = rw e (followed .meshed .turns);
+            origins = rw e (followed .meshed .origins);
+            apexes = rw e (apex-small (peelTables n t) coded);
+            labels = rw e (labels-are (peelTables n t) coded);
           };
           realizer = rules (followed .peel) same-passed;
           stored = rw e (followed .stored);

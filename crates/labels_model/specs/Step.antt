@@ -1,5 +1,5 @@
 -- A vertex leaves: what the tables hold after it, of the new frontier, of the labels and of the vertices that have left. Assumes nothing.
-use Prim.Native.Nat.{ℕ, _+_, _*_, _/_, _%_, _≤_, _<_}
+use Prim.Native.Nat.{ℕ, _*_, _/_, _≤_, _<_}
 use mathlib.Core.Path.{_≡_, refl, sym, ap, _∙_}
 use mathlib.Core.Logic.{_≢_, _⊎_, inl, inr}
 use mathlib.Core.Bool.{Bool, true, false, not, _&&_, _||_}
@@ -15,24 +15,26 @@ use Rattle.laws.specs.Lists.{_∈_, tested, clash, untrue, and-both, or-either,
 use Rattle.laws.specs.Counting.{distinct-within, distinct-head}
 use Rattle.laws.specs.Edges.{dist-same}
 use Rattle.theory_sphere.specs.Sphere.{Sphere}
-use Rattle.theory_sphere.specs.Darts.{next-prev, prev-next, prev-below}
+use Rattle.theory_sphere.specs.Darts.{next-prev, prev-next, next-below, prev-below}
 use Rattle.theory_sphere.specs.Rotations.{tip-opp, tip-rot, opp-rot}
 use Rattle.theory_realizer.specs.Trace.{edge}
 use Rattle.theory_peeling.specs.Inside.{Inside, inside-next, inside-prev, inside?, Inv}
 use Rattle.theory_realizer.specs.Edges.{edge-is}
 use Rattle.theory_peeling.specs.Fan.{Leaves}
 use Rattle.theory_peeling.specs.Peel.{rest}
-use Rattle.scratch_tables.specs.Tables.{Tables}
+use Rattle.labels_tables.specs.Peeling.{Peeling}
 use Rattle.labels_model.specs.Model.{passFan, leaveFrontier, removeVertex}
 use Rattle.labels_model.specs.NeighbourCounts.{tip-is}
 use Rattle.labels_model.specs.FrontierInsert.{Marked}
-use Rattle.labels_model.specs.FrontierRemove.{leaveFrontier-order, leaveFrontier-earlier, leaveFrontier-op, leaveFrontier-head, leaveFrontier-count}
-use Rattle.labels_model.specs.FrontierRemove.{leaveFrontier-marks}
-use Rattle.labels_model.specs.LabelTriangle.{inner-dart, Coded}
+use Rattle.labels_model.specs.Counters.{Meshed, meshed-kept}
+use Rattle.labels_model.specs.FrontierRemove.{leaveFrontier-order, leaveFrontier-earlier, leaveFrontier-turn, leaveFrontier-origin}
+use Rattle.labels_model.specs.FrontierRemove.{leaveFrontier-apex, leaveFrontier-lefts, leaveFrontier-rights, leaveFrontier-marks}
+use Rattle.labels_model.specs.FrontierRemove.{left-degree, right-degree}
+use Rattle.labels_model.specs.LabelTriangle.{Coded}
 use Rattle.labels_model.specs.LabelFan.{marked-same, fan-shape, across, across-org, across-tip, Fanned, Fresh, fanned}
 use Rattle.labels_model.specs.FrontierInvariant.{tips-once, on, true-on, on-true, false-on, Stood, on-there, on-below, tip-on}
 
-module _ (n : ℕ) (ts : List ℕ) (s : Sphere n (length ts / 3) (org ts) (opp ts)) (len : 3 * (length ts / 3) ≡ length ts) (few : length ts < 32000)
+module _ (n : ℕ) (ts : List ℕ) (s : Sphere n (length ts / 3) (org ts) (opp ts)) (len : 3 * (length ts / 3) ≡ length ts)
     {R D D′ gs : List ℕ} {e e′ : ℕ} (v : Inv n (length ts / 3) (org ts) (opp ts) R D)
     (l : Leaves (length ts / 3) (org ts) (opp ts) R D e e′ gs D′) where
   abbrev T : ℕ
@@ -144,7 +146,7 @@ module _ (n : ℕ) (ts : List ℕ) (s : Sphere n (length ts / 3) (org ts) (opp t
   F₁ w = elem w (map (tip ts) (rest gs)) || F₀ w
 
   edge-org : (g : ℕ) → g ∈ gs → o (edge T o (opp ts) g) ≡ o (prev g)
-  edge-org g m = ap o (edge-is T o (opp ts) g) ∙ across-org n ts s len few g (gb g m)
+  edge-org g m = ap o (edge-is T o (opp ts) g) ∙ across-org n ts s len g (gb g m)
 
   -- no dart of the new frontier leaves the vertex
   pub left-out : (x : ℕ) → x ∈ z ∷ D′ → o x ≢ o e
@@ -230,29 +232,40 @@ module _ (n : ℕ) (ts : List ℕ) (s : Sphere n (length ts / 3) (org ts) (opp t
 
   -- ---- the tables
 
-  module _ {P : List ℕ} {t : Tables} (st : Stood n ts R D P t) (i : ℕ) where
+  module _ {P : List ℕ} {t : Peeling} (st : Stood n ts R D P t) (i : ℕ) where
     abbrev v′ : ℕ
     v′ = o e
 
-    abbrev t₀ : Tables
-    t₀ = leaveFrontier i v′ (tip ts e) (tip ts q) t
+    abbrev t₀ : Peeling
+    t₀ = leaveFrontier n i v′ (tip ts e) (tip ts q) t
 
     -- the tables after the vertex has left
-    abbrev t′ : Tables
-    t′ = removeVertex ts i v′ t
+    abbrev t′ : Peeling
+    t′ = removeVertex n i v′ t
 
-    pub head-is : t .head v′ ≡ e
-    head-is = st .heads e (l .this)
+    pub left-is : t .left v′ ≡ e
+    left-is = st .lefts e (l .this)
 
-    pub count-is : t .count v′ ≡ e′
-    count-is = ap (t .count) (l .meet ∙ sym (tip-is ts e′)) ∙ st .counts e′ (l .that)
+    pub right-is : t .right v′ ≡ e′
+    right-is = ap (t .right) (l .meet ∙ sym (tip-is ts e′)) ∙ st .rights e′ (l .that)
 
-    leave-is : t′ ≡ passFan ts (tip ts q) (length ts) e t₀
+    -- its left and its right neighbour
+    pub left-tip : t .origin (next e) ≡ tip ts e
+    left-tip = st .meshed .origins (next e) (omega (arith, next-below T e eb)) ∙ sym (tip-is ts e)
+
+    pub right-tip : t .origin e′ ≡ tip ts q
+    right-tip = st .meshed .origins e′ (omega (arith, eb′)) ∙ sym q-tip
+
+    leave-is : t′ ≡ passFan n (tip ts q) (6 * n) e t₀
     unfolding removeVertex
-    leave-is = let g : t .head v′ % 65536 ≡ e = omega (arith, head-is, eb, len, few) in rw (g, count-is, sym q-tip)
+    leave-is = rw (left-is, right-is, left-tip, right-tip)
 
-    coded₀ : Coded ts P t₀
-    coded₀ d b = leaveFrontier-op i v′ (tip ts e) (tip ts q) t d ∙ st .coded d b
+    pub meshed₀ : Meshed ts t₀
+    meshed₀ =
+        meshed-kept (leaveFrontier-turn n i v′ (tip ts e) (tip ts q) t) (leaveFrontier-origin n i v′ (tip ts e) (tip ts q) t) (st .meshed)
+
+    pub coded₀ : Coded P t₀
+    coded₀ = rw (leaveFrontier-apex n i v′ (tip ts e) (tip ts q) t) (st .coded)
 
     aF : on ts D (tip ts e) ≡ true
     aF = tip-on n ts s len v e em
@@ -260,18 +273,41 @@ module _ (n : ℕ) (ts : List ℕ) (s : Sphere n (length ts / 3) (org ts) (opp t
     bF : on ts D (tip ts q) ≡ true
     bF = rw q-tip (true-on ts D e′ em′)
 
-    marked₀ : Marked n ts F₀ t₀
-    marked₀ =
-        leaveFrontier-marks n ts s len (on ts D) i v′ e q t (st .marked) (true-on ts D e em) eb refl qb q-from aF bF (on-below n ts s len v (tip ts e) aF)
-        (on-below n ts s len v (tip ts q) bF)
-        (λ p. s .proper e eb (sym p ∙ tip-is ts e)) (λ p. s .proper q qb (q-from ∙ sym p ∙ tip-is ts q))
-        (λ p. q-out (rw (one e q eb qb (sym q-from) p) at (v .this e em))) only-two
+    not-left : tip ts e ≢ v′
+    not-left p = s .proper e eb (sym p ∙ tip-is ts e)
 
-    fresh₀ : Fresh n ts s len few v′ (tip ts q) P F₀ gs
+    not-right : tip ts q ≢ v′
+    not-right p = s .proper q qb (q-from ∙ sym p ∙ tip-is ts q)
+
+    two-sides : tip ts e ≢ tip ts q
+    two-sides p = q-out (rw (one e q eb qb (sym q-from) p) at (v .this e em))
+
+    a-below : tip ts e < n
+    a-below = on-below n ts s len v (tip ts e) aF
+
+    b-below : tip ts q < n
+    b-below = on-below n ts s len v (tip ts q) bF
+
+    pub marked₀ : Marked n ts F₀ t₀
+    marked₀ =
+        leaveFrontier-marks n ts s len (on ts D) i v′ e q t (st .marked) (true-on ts D e em) eb refl qb q-from aF bF a-below b-below not-left not-right
+        two-sides only-two
+
+    -- each of its neighbours has it as a neighbour
+    pub left-many : 1 < t .degree (tip ts e)
+    left-many =
+        left-degree n ts s len (on ts D) i v′ e q t (st .marked) (true-on ts D e em) eb refl qb q-from aF bF a-below b-below not-left not-right two-sides
+        only-two
+
+    pub right-many : 1 < t .degree (tip ts q)
+    right-many =
+        right-degree n ts s len (on ts D) i v′ e q t (st .marked) (true-on ts D e em) eb refl qb q-from aF bF a-below b-below not-left not-right two-sides
+        only-two
+
+    pub fresh₀ : Fresh n ts s len v′ (tip ts q) P F₀ gs
     fresh₀ =
         record {
           below = gb;
-          inner = λ g m. inner-dart g (l .inside g m .inner);
           from = l .from;
           distinct = l .distinct;
           short = λ g m p. q-out (rw (one g q (gb g m) qb (l .from g m ∙ sym q-from) p) at (l .inside g m));
@@ -279,66 +315,76 @@ module _ (n : ℕ) (ts : List ℕ) (s : Sphere n (length ts / 3) (org ts) (opp t
           blank = λ g m. (λ k. l .inside g m .off (st .old (prev g) k), λ k. l .inside g m .to (st .old (next g) k));
         }
 
-    short : length gs ≤ length ts
-    short = omega (arith, distinct-within (l .distinct) (upto (length ts)) (λ g m. in-upto (length ts) g (omega (arith, gb g m))), length-upto (length ts))
+    short : length gs ≤ 6 * n
+    short = omega (
+      arith,
+      distinct-within (l .distinct) (upto (length ts)) (λ g m. in-upto (length ts) g (omega (arith, gb g m))),
+      length-upto (length ts),
+      s .size,
+    )
 
-    pub done : Fanned n ts s len few P F₀ gs t₀ t′
-    done = rw leave-is (fanned n ts s len few v′ q (tip ts q) refl (l .fan) (length ts) P F₀ t₀ short coded₀ marked₀ fresh₀)
+    pub done : Fanned n ts s len P F₀ gs t₀ t′
+    done = rw leave-is (fanned n ts s len v′ q (tip ts q) refl (l .fan) (6 * n) P F₀ t₀ short meshed₀ coded₀ marked₀ fresh₀)
+
+    left₀ : (r : ℕ) → t₀ .left r ≡ t .left r
+    left₀ r = ap (λ (f : ℕ → ℕ). f r) (leaveFrontier-lefts n i v′ (tip ts e) (tip ts q) t)
+
+    right₀ : (r : ℕ) → t₀ .right r ≡ t .right r
+    right₀ r = ap (λ (f : ℕ → ℕ). f r) (leaveFrontier-rights n i v′ (tip ts e) (tip ts q) t)
+
+    order₁ : (j : ℕ) → t′ .order j ≡ t₀ .order j
+    order₁ j = ap (λ (f : ℕ → ℕ). f j) (done .orders)
 
     -- what a vertex that has left had is kept
-    pub head-kept : (r : ℕ) → r ∈ v′ ∷ R → t′ .head r ≡ t .head r
-    head-kept r m =
-        done .head-old r (λ g k p. prev-there g k (Memᴰ·cast (sym (p ∙ across-org n ts s len few g (gb g k))) m))
-        ∙ leaveFrontier-head i v′ (tip ts e) (tip ts q) t r
+    pub left-kept : (r : ℕ) → r ∈ v′ ∷ R → t′ .left r ≡ t .left r
+    left-kept r m = done .left-old r (λ g k p. prev-there g k (Memᴰ·cast (sym (p ∙ across-org n ts s len g (gb g k))) m)) ∙ left₀ r
 
-    pub count-kept : (r : ℕ) → r ∈ v′ ∷ R → t′ .count r ≡ t .count r
-    count-kept r m =
-        done .count-old r (λ g k p. tip-there g k (Memᴰ·cast (sym (p ∙ across-tip n ts s len few g (gb g k))) m))
-        ∙ leaveFrontier-count i v′ (tip ts e) (tip ts q) t r
+    pub right-kept : (r : ℕ) → r ∈ v′ ∷ R → t′ .right r ≡ t .right r
+    right-kept r m = done .right-old r (λ g k p. tip-there g k (Memᴰ·cast (sym (p ∙ across-tip n ts s len g (gb g k))) m)) ∙ right₀ r
 
-    pub order-here : t′ .mark (2 * i + 1) ≡ v′
-    order-here = done .order i ∙ leaveFrontier-order i v′ (tip ts e) (tip ts q) t
+    pub order-here : t′ .order i ≡ v′
+    order-here = order₁ i ∙ leaveFrontier-order n i v′ (tip ts e) (tip ts q) t
 
-    pub order-kept : (j : ℕ) → j ≢ i → t′ .mark (2 * j + 1) ≡ t .mark (2 * j + 1)
-    order-kept j h = done .order j ∙ leaveFrontier-earlier i v′ (tip ts e) (tip ts q) t j h
+    pub order-kept : (j : ℕ) → j ≢ i → t′ .order j ≡ t .order j
+    order-kept j h = order₁ j ∙ leaveFrontier-earlier n i v′ (tip ts e) (tip ts q) t j h
 
     -- the new frontier's darts
-    edge-of : (g : ℕ) → g ∈ gs → across n ts s len few g ∈ D′
+    edge-of : (g : ℕ) → g ∈ gs → across n ts s len g ∈ D′
     edge-of g m = Memᴰ·cast (sym (edge-is T o (opp ts) g)) (l .edges g m)
 
-    new-heads : (x : ℕ) → x ∈ D′ → t′ .head (o x) ≡ x
-    new-heads x m =
-        elim (decIn (o x) (map (λ g. o (across n ts s len few g)) gs)) [
+    new-lefts : (x : ℕ) → x ∈ D′ → t′ .left (o x) ≡ x
+    new-lefts x m =
+        elim (decIn (o x) (map (λ g. o (across n ts s len g)) gs)) [
           | yes k ↦
-              let r = Memᴰ·of-map (λ g. o (across n ts s len few g)) gs k in
-              let p : x ≡ across n ts s len few (r .0) = dist-same o (z ∷ D′) (l .differ) x (across n ts s len few (r .0)) (List·Memᴰ·tail m)
+              let r = Memᴰ·of-map (λ g. o (across n ts s len g)) gs k in
+              let p : x ≡ across n ts s len (r .0) = dist-same o (z ∷ D′) (l .differ) x (across n ts s len (r .0)) (List·Memᴰ·tail m)
               (List·Memᴰ·tail (edge-of (r .0) (r .1))) (sym (r .2)) in
-              rw p (done .head-new (r .0) (r .1))
+              rw p (done .left-new (r .0) (r .1))
           | no k ↦
               elim (l .fresh x m) [
                 | inl r ↦ absurd (k (Memᴰ·cast (ap o (sym (r .2) ∙ edge-is T o (opp ts) (r .0)))
-                    (Memᴰ·map (λ g. o (across n ts s len few g)) (r .1))))
-                | inr r ↦ done .head-old (o x) (λ g j p. k (Memᴰ·cast p (Memᴰ·map (λ g. o (across n ts s len few g)) j)))
-                    ∙ leaveFrontier-head i v′ (tip ts e) (tip ts q) t (o x) ∙ st .heads x (r .0)
+                    (Memᴰ·map (λ g. o (across n ts s len g)) (r .1))))
+                | inr r ↦ done .left-old (o x) (λ g j p. k (Memᴰ·cast p (Memᴰ·map (λ g. o (across n ts s len g)) j)))
+                    ∙ left₀ (o x) ∙ st .lefts x (r .0)
               ]
         ]
 
     same-tips : (x y : ℕ) → x ∈ D′ → y ∈ D′ → tip ts x ≡ tip ts y → x ≡ y
     same-tips x y m k p = tips-once o z D′ (o (next z)) (l .path) (l .differ) x y m k (sym (tip-is ts x) ∙ p ∙ tip-is ts y)
 
-    new-counts : (x : ℕ) → x ∈ D′ → t′ .count (tip ts x) ≡ x
-    new-counts x m =
-        elim (decIn (tip ts x) (map (λ g. tip ts (across n ts s len few g)) gs)) [
+    new-rights : (x : ℕ) → x ∈ D′ → t′ .right (tip ts x) ≡ x
+    new-rights x m =
+        elim (decIn (tip ts x) (map (λ g. tip ts (across n ts s len g)) gs)) [
           | yes k ↦
-              let r = Memᴰ·of-map (λ g. tip ts (across n ts s len few g)) gs k in
-              let p : x ≡ across n ts s len few (r .0) = same-tips x (across n ts s len few (r .0)) m (edge-of (r .0) (r .1)) (sym (r .2)) in
-              rw p (done .count-new (r .0) (r .1))
+              let r = Memᴰ·of-map (λ g. tip ts (across n ts s len g)) gs k in
+              let p : x ≡ across n ts s len (r .0) = same-tips x (across n ts s len (r .0)) m (edge-of (r .0) (r .1)) (sym (r .2)) in
+              rw p (done .right-new (r .0) (r .1))
           | no k ↦
               elim (l .fresh x m) [
                 | inl r ↦ absurd (k (Memᴰ·cast (ap (tip ts) (sym (r .2) ∙ edge-is T o (opp ts) (r .0)))
-                    (Memᴰ·map (λ g. tip ts (across n ts s len few g)) (r .1))))
-                | inr r ↦ done .count-old (tip ts x) (λ g j p. k (Memᴰ·cast p (Memᴰ·map (λ g. tip ts (across n ts s len few g)) j)))
-                    ∙ leaveFrontier-count i v′ (tip ts e) (tip ts q) t (tip ts x) ∙ st .counts x (r .0)
+                    (Memᴰ·map (λ g. tip ts (across n ts s len g)) (r .1))))
+                | inr r ↦ done .right-old (tip ts x) (λ g j p. k (Memᴰ·cast p (Memᴰ·map (λ g. tip ts (across n ts s len g)) j)))
+                    ∙ right₀ (tip ts x) ∙ st .rights x (r .0)
               ]
         ]
 
@@ -346,9 +392,10 @@ module _ (n : ℕ) (ts : List ℕ) (s : Sphere n (length ts / 3) (org ts) (opp t
     pub stands : Stood n ts (v′ ∷ R) D′ (P ++ gs) t′
     stands =
         record {
+          meshed = done .meshed;
           coded = done .coded;
           marked = marked-same n ts F₁ (on ts D′) t′ new-on (done .marked);
-          heads = new-heads;
-          counts = new-counts;
+          lefts = new-lefts;
+          rights = new-rights;
           old = λ x m. elim (List·Memᴰ·append-cases P m) [ inl k ↦ List·Memᴰ·tail (st .old x k) | inr k ↦ List·Memᴰ·head (l .from x k) ];
         }

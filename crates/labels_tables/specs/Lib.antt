@@ -1,2 +1,3 @@
--- What scratch holds once the corners of an accepted mesh are labelled.
+-- The tables of the labels stage, and what they hold once the corners are labelled.
+pub mod Peeling
 pub mod LabelledTables

@@ -12,6 +12,5 @@ pub mod Forest
 pub mod Edges
 pub mod Positions
 pub mod Mapped
-pub mod Loops
 pub mod Tabulated
 pub mod Covers

@@ -1,16 +1,18 @@
 -- Weights kept in scratch, past the words of the darts. Assumes nothing.
-use Prim.Native.Nat.{ℕ, _+_, _/_, _≤_, _<_}
-use mathlib.Core.Path.{_≡_, refl, sym, ap₂, fun-ext, _∙_}
+use Prim.Native.Nat.{ℕ, _+_, _-_, _*_, _≤_, _<_}
+use mathlib.Core.Path.{_≡_, refl, sym, ap, fun-ext, _∙_}
 use mathlib.Core.List.{List}
 use native.Mathlib.Omega.{arith}
 use native.Mathlib.Decide.{ℕ-discrete, decLt}
 use lib.ListN.{length, getD, set, length-set}
 use lib.Seq.{getD-set-same, getD-set-other, ext-getD}
 use lib.IntN.{ℤ, pos}
-use Rattle.definitions.specs.Mesh.{org}
+use Rattle.definitions.specs.Mesh.{coordinatesLength}
 use Rattle.definitions.specs.Backward.{coordinate}
 use Rattle.scratch_tables.specs.Tables.{wordAt, tablesOf, op-in, op-past, pastDarts}
-use Rattle.maps_backward.specs.Weights.{weightOf, weights, weights-at}
+use Rattle.labels_tables.specs.Peeling.{peelingOf, peeling}
+use Rattle.labels_tables.specs.LabelledTables.{Labelled, labelIn}
+use Rattle.maps_backward.specs.Weights.{InnerTriangle, weightOf, weights, weights-at, same-weight}
 
 -- scratch s holds the list xs there
 pub record Buffered (xs s : List ℤ) : Type 0 where
@@ -52,12 +54,54 @@ keeping-more xs s₀ s s′ i k x K e h r q = rw r (record {
 pub keeping-all : (xs s₀ s : List ℤ) (i : ℕ) → length xs ≤ i → Buffering xs s₀ s i → Buffered xs s
 keeping-all xs s₀ s i h K = record { entries = λ j b. rw (K .long) (K .entries j (omega arith)) }
 
--- a weight worked out with some kept already
-pub kept-weight : (bs : List ℤ) (ts : List ℕ) (s₀ s : List ℤ) (i : ℕ) (N x : ℤ) → Buffering (weights bs (tablesOf s₀ .op) ts) s₀ s i →
-    i + 1 < length ts / 3 → N ≡ coordinate bs 0 (org ts 0) → x ≡ weightOf bs (tablesOf s .op) ts N (i + 1) →
-    x ≡ getD (weights bs (tablesOf s₀ .op) ts) i (pos 0)
-kept-weight bs ts s₀ s i N x K h t e =
-    e ∙ ap₂ (λ (w : ℕ → ℕ) (N : ℤ). weightOf bs w ts N (i + 1)) (K .same) t ∙ sym (weights-at bs (tablesOf s₀ .op) ts i h)
+-- the darts' entries in the tables of the labels stage
+module _ {xs s₀ s : List ℤ} {i : ℕ} (K : Buffering xs s₀ s i) where
+  same-turn : peeling s .turn ≡ peeling s₀ .turn
+  unfolding peelingOf
+  same-turn = rw (K .same)
+
+  same-origin : peeling s .origin ≡ peeling s₀ .origin
+  unfolding peelingOf
+  same-origin = rw (K .same)
+
+  same-apex : peeling s .apex ≡ peeling s₀ .apex
+  unfolding peelingOf
+  same-apex = rw (K .same)
+
+  same-label : (d : ℕ) → labelIn (peeling s) d ≡ labelIn (peeling s₀) d
+  unfolding labelIn
+  same-label d = rw same-apex
+
+  still-labelled : {n : ℕ} {ts ls : List ℕ} → Labelled n ts ls s₀ → Labelled n ts ls s
+  still-labelled l = record {
+    most = l .most;
+    room = rw (K .long) (l .room);
+    size = l .size;
+    sphere = l .sphere;
+    turns = λ d h. rw same-turn (l .turns d h);
+    origins = λ d h. rw same-origin (l .origins d h);
+    apexes = λ t z h. rw same-apex (l .apexes t z h);
+    labels = λ d h. same-label d ∙ l .labels d h;
+  }
+
+-- the next triangle, with some weights kept already, and its weight
+module _ (bs : List ℤ) (n : ℕ) (s₀ s : List ℤ) (i : ℕ) (K : Buffering (weights bs (peeling s₀) (2 * n - 5)) s₀ s i) (h : i < 2 * n - 5) where
+  pub next-triangle : {ts ls : List ℕ} → Labelled n ts ls s₀ → length bs ≡ coordinatesLength n → InnerTriangle bs s (i + 1)
+  next-triangle l e = record {
+    n = n;
+    ts = _;
+    ls = _;
+    labelled = still-labelled K l;
+    long = e;
+    inner = omega arith;
+    below = omega (arith, l .size);
+  }
+
+  pub kept-weight : (N x : ℤ) → N ≡ coordinate bs 0 (peeling s₀ .origin 0) → x ≡ weightOf bs (peeling s) N (i + 1) →
+      x ≡ getD (weights bs (peeling s₀) (2 * n - 5)) i (pos 0)
+  kept-weight N x t e =
+      e ∙ same-weight bs (peeling s) (peeling s₀) N (i + 1) (same-turn K) (same-origin K) (same-apex K)
+      ∙ ap (λ (N : ℤ). weightOf bs (peeling s₀) N (i + 1)) t ∙ sym (weights-at bs (peeling s₀) (2 * n - 5) i h)
 
 -- the loop that writes them
 pub record Copied (s ws₀ ws : List ℤ) (i : ℕ) : Type 0 where

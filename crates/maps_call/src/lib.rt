@@ -46,7 +46,7 @@ fn run_forward(
     if past_limit(weights) {
         return MapAnswer::Refused(Refusal::Numbered(9));
     }
-    write_coordinates(n, triangles, weights, coordinates, scratch);
+    write_coordinates(n, weights, coordinates, scratch);
     MapAnswer::Written
 }
 
@@ -101,13 +101,13 @@ fn run_backward(
     if out_of_range(coordinates) {
         return MapAnswer::Refused(Refusal::Numbered(10));
     }
-    if off_corner(triangles, coordinates) {
+    if off_corner(coordinates, scratch) {
         return MapAnswer::Refused(Refusal::Numbered(11));
     }
-    if off_sum(n, triangles, coordinates) {
+    if off_sum(n, coordinates, scratch) {
         return MapAnswer::Refused(Refusal::Numbered(12));
     }
-    if weights_past_limit(triangles, coordinates, scratch) {
+    if weights_past_limit(n, coordinates, scratch) {
         return MapAnswer::Refused(Refusal::Numbered(9));
     }
     write_weights(weights, scratch);

@@ -1,264 +1,203 @@
 // The forward map on a peeled mesh, in the lent coordinates alone. Down: vertices leave in their order, and each hands the sums beside it on through
 // its fan. Up: in the opposite order each takes b1 from its left neighbour and b0 from its right one. Last, b2 is what is left of N.
+use labels_tables::left_dart;
+use labels_tables::origin;
+use labels_tables::removed_vertex;
+use labels_tables::right_dart;
+use scratch_tables::prev_dart;
 ghost use mathlib.Core.Path.{_≡_};
 ghost use mathlib.Core.Bool.{false};
 ghost use mathlib.Core.List.{List};
 ghost use Prim.Native.Nat.{ℕ, suc, _+_, _-_, _*_, _≤_, _<_, _^_};
-ghost use lib.ListN.{length, getD, set};
-ghost use lib.IntN.{pos, natAbs, _-ℤ_};
-ghost use Rattle.definitions.specs.Mesh.{weightsLength, coordinatesLength, org};
-ghost use Rattle.definitions.specs.Forward.{weight, forward};
+ghost use lib.ListN.{length, set};
+ghost use lib.IntN.{natAbs, _-ℤ_};
+ghost use Rattle.definitions.specs.Mesh.{weightsLength, coordinatesLength, prev};
+ghost use Rattle.definitions.specs.Forward.{forward};
 ghost use Rattle.definitions.specs.Backward.{coordinate};
 ghost use Rattle.definitions.specs.Repair.{limit};
 ghost use Rattle.definitions.specs.Refusals.{row9};
-ghost use Rattle.scratch_tables.specs.Tables.{tablesOf};
+ghost use Rattle.labels_tables.specs.Peeling.{peeling};
 ghost use Rattle.labels_tables.specs.LabelledTables.{Peeled};
-ghost use Rattle.maps_forward_model.specs.Model.{wordIndex, copy, add, storeWeight, storeFan, keptAndStored, withLeftSum, accumulate, accumulateAll};
-ghost use Rattle.maps_forward_model.specs.Model.{withCorners, withLeftB1, propagate, propagateAll};
+ghost use Rattle.maps_forward_model.specs.Model.{wordIndex, copy, add, InnerDart, storeWeight, stores, fanFrom, accumulate, accumulateAll};
+ghost use Rattle.maps_forward_model.specs.Model.{withCorners, propagate, propagateAll};
 ghost use Rattle.maps_forward_model.specs.Thirds.{ThirdsPre, ThirdsWritten};
 ghost use Rattle.maps_forward_model.specs.RemovalStep.{Room};
 ghost use Rattle.maps_forward_model.specs.Propagate.{Ceiling};
+ghost use Rattle.maps_forward_model.specs.Result.{Readable, Around};
+ghost use Rattle.maps_forward.specs.LoopLaws.{Lent, FanAhead};
 
-// where coordinate c of vertex i stands
-fn word_index(c: usize, i: usize) -> usize
-    requires { ⌜ (c < 3) × (i < 65536) ⌝ }
-    ensures { λ r. ⌜ r ≡ wordIndex c i ⌝ }
+// coordinate c of vertex i made that of coordinate d of vertex j
+fn copy(s: &mut [i64], c: usize, i: usize, d: usize, j: usize)
+    requires { ⌜ (wordIndex c i < length (now s)) × (wordIndex d j < length (now s)) ⌝ }
+    ensures { λ r. ⌜ now (s .exit) ≡ copy (wordIndex c i) (wordIndex d j) (now (s .entry)) ⌝ }
 {
-    3 * i + c
+    let x = int64::get(s, 3 * j + d);
+    int64::put(s, 3 * i + c, x);
 }
 
-// a store; past the end, none
-fn store(s: &mut [i64], i: usize, x: i64)
-    ensures { λ r. ⌜ now (s .exit) ≡ set (now (s .entry)) i x ⌝ }
+// coordinate d of vertex j added to coordinate c of vertex i
+fn add(s: &mut [i64], c: usize, i: usize, d: usize, j: usize)
+    requires { ⌜ (wordIndex c i < length (now s)) × (wordIndex d j < length (now s))
+        × (natAbs (coordinate (now s) c i) + natAbs (coordinate (now s) d j) < 2 ^ 63) ⌝ }
+    ensures { λ r. ⌜ now (s .exit) ≡ add (wordIndex c i) (wordIndex d j) (now (s .entry)) ⌝ }
 {
-    if i < s.len() {
-        int64::put(s, i, x);
-    }
-}
-
-// one entry copied to another
-fn copy(s: &mut [i64], to: usize, from: usize)
-    ensures { λ r. ⌜ now (s .exit) ≡ copy to from (now (s .entry)) ⌝ }
-{
-    let x = int64::at(s, from);
-    store(s, to, x);
-}
-
-// one entry added to another
-fn add(s: &mut [i64], to: usize, from: usize)
-    requires { ⌜ natAbs (getD (now s) to (pos 0)) + natAbs (getD (now s) from (pos 0)) < 2 ^ 63 ⌝ }
-    ensures { λ r. ⌜ now (s .exit) ≡ add to from (now (s .entry)) ⌝ }
-{
-    let x = int64::at(s, to);
-    let y = int64::at(s, from);
+    let x = int64::get(s, 3 * i + c);
+    let y = int64::get(s, 3 * j + d);
     let z = int64::plus(x, y);
-    store(s, to, z);
+    int64::put(s, 3 * i + c, z);
 }
 
-// the weight of triangle t
-fn weight_at(weights: &[i64], t: usize) -> i64
-    ensures { λ r. ⌜ r ≡ weight (now (weights .entry)) t ⌝ }
+// The weight of a fan's dart g, whose previous one is q, stored at the vertex where the new frontier dart starts. Weights stand from triangle 1 on.
+fn store_weight(weights: &[i64], coordinates: &mut [i64], scratch: &[i64], g: usize, q: usize)
+    requires { ⌜ ((n : ℕ) × Lent n (now weights) (now coordinates) (now scratch) × InnerDart n g) × (q ≡ prev g) ⌝ }
+    ensures { λ r. ⌜ now (coordinates .exit) ≡
+        storeWeight (peeling (now (scratch .entry)) .origin) (now (weights .entry)) g (now (coordinates .entry)) ⌝ }
 {
-    if t == 0 { 0 } else { int64::at(weights, t - 1) }
-}
-
-// the weight of a fan's dart, stored at the vertex where the new frontier dart starts
-fn store_weight(triangles: &[u16], weights: &[i64], coordinates: &mut [i64], g: usize)
-    requires { ⌜ g < 2 ^ 63 ⌝ }
-    ensures { λ r. ⌜ now (coordinates .exit) ≡ storeWeight (now (triangles .entry)) (now (weights .entry)) g (now (coordinates .entry)) ⌝ }
-{
-    let u = scratch_tables::origin(triangles, scratch_tables::prev_dart(g));
-    let i = word_index(1, u);
-    let w = weight_at(weights, g / 3);
-    store(coordinates, i, w);
+    let u = origin(scratch, q);
+    let w = int64::get(weights, g / 3 - 1);
+    int64::put(coordinates, 3 * u + 1, w);
 }
 
 // all of a fan, from one dart on up to the one whose previous dart is `stop`
-fn store_fan(
-    triangles: &[u16],
-    weights: &[i64],
-    coordinates: &mut [i64],
-    scratch: &[i64],
-    stop: usize,
-    from: usize,
-)
-    requires { ⌜ from < 2 ^ 63 ⌝ }
-    ensures { λ r. ⌜ now (coordinates .exit) ≡
-        storeFan (now (triangles .entry)) (tablesOf (now (scratch .entry))) (now (weights .entry)) (length (now (triangles .entry))) stop from
-        (now (coordinates .entry)) ⌝ }
+fn store_fan(weights: &[i64], coordinates: &mut [i64], scratch: &[i64], stop: usize, from: usize)
+    requires { ⌜ FanAhead (now weights) (now coordinates) (now scratch) stop from ⌝ }
+    ensures { λ r. ⌜ now (coordinates .exit) ≡ stores (peeling (now (scratch .entry)) .origin) (now (weights .entry))
+        (fanFrom (peeling (now (scratch .entry))) stop (length (now (scratch .entry))) from) (now (coordinates .entry)) ⌝ }
 {
     let mut g = from;
-    let mut k = 0;
-    while k < triangles.len() {
-        store_weight(triangles, weights, coordinates, g);
-        let p = scratch_tables::prev_dart(g);
-        if p == stop {
-            return;
-        }
-        g = labels_tables::opposite(scratch, p);
-        k += 1;
+    let mut q = prev_dart(g);
+    while q != stop {
+        store_weight(weights, coordinates, scratch, g, q);
+        g = labels_tables::turn(scratch, g);
+        q = prev_dart(g);
     }
+    store_weight(weights, coordinates, scratch, g, q);
 }
 
-// v keeps the sum on its right, and the weights of its fan are stored
+// a vertex v that leaves keeps the sum on its right, which stands at r, and the weights of its fan are stored
 fn keep_and_store(
-    triangles: &[u16],
     weights: &[i64],
     coordinates: &mut [i64],
     scratch: &[i64],
     v: usize,
+    left: usize,
+    right: usize,
+    r: usize,
 )
-    requires { ⌜ v < 65536 ⌝ }
-    ensures { λ r. ⌜ now (coordinates .exit) ≡
-        keptAndStored (now (triangles .entry)) (tablesOf (now (scratch .entry))) (now (weights .entry)) v (now (coordinates .entry)) ⌝ }
+    requires { ⌜ FanAhead (now weights) (now coordinates) (now scratch) right left × (wordIndex 0 v < length (now coordinates))
+        × (wordIndex 1 r < length (now coordinates)) ⌝ }
+    ensures { λ o. ⌜ now (coordinates .exit) ≡ stores (peeling (now (scratch .entry)) .origin) (now (weights .entry))
+        (fanFrom (peeling (now (scratch .entry))) right (length (now (scratch .entry))) left)
+        (copy (wordIndex 0 v) (wordIndex 1 r) (now (coordinates .entry))) ⌝ }
 {
-    let right = labels_tables::right_dart(scratch, v);
-    let r = scratch_tables::origin(triangles, right);
-    let to = word_index(0, v);
-    let from = word_index(1, r);
-    copy(coordinates, to, from);
-    let left = labels_tables::left_dart(scratch, v);
-    store_fan(triangles, weights, coordinates, scratch, right, left);
+    copy(coordinates, 0, v, 1, r);
+    store_fan(weights, coordinates, scratch, right, left);
 }
 
-// and the sum on its left goes to the first of them
-fn add_left_sum(
-    triangles: &[u16],
-    weights: &[i64],
-    coordinates: &mut [i64],
-    scratch: &[i64],
-    v: usize,
-)
-    requires { ⌜ (v < 65536) × Room (now triangles) (tablesOf (now scratch)) (now weights) v (now coordinates) ⌝ }
-    ensures { λ r. ⌜ now (coordinates .exit) ≡
-        withLeftSum (now (triangles .entry)) (tablesOf (now (scratch .entry))) (now (weights .entry)) v (now (coordinates .entry)) ⌝ }
+// the sums beside a vertex v that leaves, handed on: the one on its left to u, the one on its right to r
+fn hand_on(coordinates: &mut [i64], v: usize, u: usize, r: usize)
+    requires { ⌜ (wordIndex 1 v < length (now coordinates)) × (wordIndex 1 u < length (now coordinates)) × (wordIndex 1 r < length (now coordinates))
+        × (natAbs (coordinate (now coordinates) 1 u) + natAbs (coordinate (now coordinates) 1 v) < 2 ^ 63)
+        × (natAbs (coordinate (add (wordIndex 1 u) (wordIndex 1 v) (now coordinates)) 1 r)
+        + natAbs (coordinate (add (wordIndex 1 u) (wordIndex 1 v) (now coordinates)) 0 v) < 2 ^ 63) ⌝ }
+    ensures { λ o. ⌜ now (coordinates .exit) ≡
+        add (wordIndex 1 r) (wordIndex 0 v) (add (wordIndex 1 u) (wordIndex 1 v) (now (coordinates .entry))) ⌝ }
 {
-    keep_and_store(triangles, weights, coordinates, scratch, v);
-    let left = labels_tables::left_dart(scratch, v);
-    let u = scratch_tables::origin(triangles, scratch_tables::prev_dart(left));
-    let to = word_index(1, u);
-    let from = word_index(1, v);
-    add(coordinates, to, from);
+    add(coordinates, 1, u, 1, v);
+    add(coordinates, 1, r, 0, v);
 }
 
-// and the one on its right to the last
-fn accumulate(
-    triangles: &[u16],
-    weights: &[i64],
-    coordinates: &mut [i64],
-    scratch: &[i64],
-    v: usize,
-)
-    requires { ⌜ (v < 65536) × Room (now triangles) (tablesOf (now scratch)) (now weights) v (now coordinates) ⌝ }
+// v leaves: it keeps the sum on its right, the weights of its fan are stored, and the sums beside it go to the first and the last of them
+fn accumulate(weights: &[i64], coordinates: &mut [i64], scratch: &[i64], v: usize)
+    requires { ⌜ ((n : ℕ) × Lent n (now weights) (now coordinates) (now scratch) × Around n (length (now scratch)) (peeling (now scratch)) v)
+        × Room (length (now scratch)) (peeling (now scratch)) (now weights) v (now coordinates) ⌝ }
     ensures { λ r. ⌜ now (coordinates .exit) ≡
-        accumulate (now (triangles .entry)) (tablesOf (now (scratch .entry))) (now (weights .entry)) v (now (coordinates .entry)) ⌝ }
+        accumulate (length (now (scratch .entry))) (peeling (now (scratch .entry))) (now (weights .entry)) v (now (coordinates .entry)) ⌝ }
 {
-    add_left_sum(triangles, weights, coordinates, scratch, v);
-    let right = labels_tables::right_dart(scratch, v);
-    let r = scratch_tables::origin(triangles, right);
-    let to = word_index(1, r);
-    let from = word_index(0, v);
-    add(coordinates, to, from);
+    let left = left_dart(scratch, v);
+    let right = right_dart(scratch, v);
+    let u = origin(scratch, prev_dart(left));
+    let r = origin(scratch, right);
+    keep_and_store(weights, coordinates, scratch, v, left, right, r);
+    hand_on(coordinates, v, u, r);
 }
 
 // all vertices leave
-fn accumulate_all(
-    n: usize,
-    triangles: &[u16],
-    weights: &[i64],
-    coordinates: &mut [i64],
-    scratch: &[i64],
-)
-    requires { ⌜ (n < 65536) × ((k : ℕ) → k < n - 2 → (tablesOf (now scratch) .mark (2 * k + 1) < n)
-        × Room (now triangles) (tablesOf (now scratch)) (now weights) (tablesOf (now scratch) .mark (2 * k + 1))
-        (accumulateAll (now triangles) (tablesOf (now scratch)) (now weights) k (now coordinates))) ⌝ }
+fn accumulate_all(n: usize, weights: &[i64], coordinates: &mut [i64], scratch: &[i64])
+    requires { ⌜ Lent n (now weights) (now coordinates) (now scratch)
+        × ((k : ℕ) → k < n - 2 → Around n (length (now scratch)) (peeling (now scratch)) (peeling (now scratch) .order k))
+        × ((k : ℕ) → k < n - 2 → Room (length (now scratch)) (peeling (now scratch)) (now weights) (peeling (now scratch) .order k)
+        (accumulateAll (length (now scratch)) (peeling (now scratch)) (now weights) k (now coordinates))) ⌝ }
     ensures { λ r. ⌜ now (coordinates .exit) ≡
-        accumulateAll (now (triangles .entry)) (tablesOf (now (scratch .entry))) (now (weights .entry)) (n - 2) (now (coordinates .entry)) ⌝ }
+        accumulateAll (length (now (scratch .entry))) (peeling (now (scratch .entry))) (now (weights .entry)) (n - 2) (now (coordinates .entry)) ⌝ }
 {
     let mut k = 0;
     while k + 2 < n {
-        let v = labels_tables::removed_vertex(scratch, k);
-        accumulate(triangles, weights, coordinates, scratch, v);
+        let v = removed_vertex(scratch, k);
+        accumulate(weights, coordinates, scratch, v);
         k += 1;
     }
 }
 
 // v0 and v1 at their corners
-fn place_corners(triangles: &[u16], coordinates: &mut [i64])
-    ensures { λ r. ⌜ now (coordinates .exit) ≡ withCorners (now (triangles .entry)) (now (coordinates .entry)) ⌝ }
+fn place_corners(coordinates: &mut [i64], v0: usize, v1: usize)
+    requires { ⌜ (wordIndex 1 v0 < length (now coordinates)) × (wordIndex 1 v1 < length (now coordinates)) ⌝ }
+    ensures { λ r. ⌜ now (coordinates .exit) ≡ withCorners v0 v1 (now (coordinates .entry)) ⌝ }
 {
-    let v0 = scratch_tables::origin(triangles, 0);
-    let v1 = scratch_tables::origin(triangles, 2);
-    let a = word_index(1, v0);
-    let b = word_index(0, v1);
-    let to = word_index(0, v0);
-    let from = word_index(1, v1);
-    store(coordinates, a, 0);
-    store(coordinates, b, 0);
-    copy(coordinates, to, from);
+    int64::put(coordinates, 3 * v0 + 1, 0);
+    int64::put(coordinates, 3 * v1, 0);
+    copy(coordinates, 0, v0, 1, v1);
 }
 
-// b1 of v, from its left neighbour
-fn propagate_left(triangles: &[u16], coordinates: &mut [i64], scratch: &[i64], v: usize)
-    requires { ⌜ (v < 65536) × Ceiling (now triangles) (tablesOf (now scratch)) v (now coordinates) ⌝ }
-    ensures { λ r. ⌜ now (coordinates .exit) ≡ withLeftB1 (now (triangles .entry)) (tablesOf (now (scratch .entry))) v (now (coordinates .entry)) ⌝ }
+// v comes back: b1 from its left neighbour, b0 from its right one
+fn propagate(coordinates: &mut [i64], scratch: &[i64], v: usize)
+    requires { ⌜ ((n : ℕ) × Readable n (length (now scratch)) (peeling (now scratch)) × (length (now coordinates) ≡ coordinatesLength n)
+        × Around n (length (now scratch)) (peeling (now scratch)) v) × Ceiling (peeling (now scratch)) v (now coordinates) ⌝ }
+    ensures { λ r. ⌜ now (coordinates .exit) ≡ propagate (peeling (now (scratch .entry))) v (now (coordinates .entry)) ⌝ }
 {
-    let left = labels_tables::left_dart(scratch, v);
-    let l = scratch_tables::tip(triangles, left);
-    let own = word_index(1, v);
-    let other = word_index(1, l);
-    add(coordinates, own, other);
-}
-
-// and b0, from its right one
-fn propagate(triangles: &[u16], coordinates: &mut [i64], scratch: &[i64], v: usize)
-    requires { ⌜ (v < 65536) × Ceiling (now triangles) (tablesOf (now scratch)) v (now coordinates) ⌝ }
-    ensures { λ r. ⌜ now (coordinates .exit) ≡ propagate (now (triangles .entry)) (tablesOf (now (scratch .entry))) v (now (coordinates .entry)) ⌝ }
-{
-    propagate_left(triangles, coordinates, scratch, v);
-    let right = labels_tables::right_dart(scratch, v);
-    let r = scratch_tables::origin(triangles, right);
-    let own = word_index(0, v);
-    let other = word_index(0, r);
-    add(coordinates, own, other);
+    let left = left_dart(scratch, v);
+    let right = right_dart(scratch, v);
+    let l = labels_tables::tip(scratch, left);
+    let r = origin(scratch, right);
+    add(coordinates, 1, v, 1, l);
+    add(coordinates, 0, v, 0, r);
 }
 
 // all vertices come back
-fn propagate_all(n: usize, triangles: &[u16], coordinates: &mut [i64], scratch: &[i64])
-    requires { ⌜ (n < 65536) × ((k : ℕ) → k < n - 2 → (tablesOf (now scratch) .mark (2 * (n - 2 - suc k) + 1) < n)
-        × Ceiling (now triangles) (tablesOf (now scratch)) (tablesOf (now scratch) .mark (2 * (n - 2 - suc k) + 1))
-        (propagateAll (now triangles) (tablesOf (now scratch)) (n - 2) k (now coordinates))) ⌝ }
-    ensures { λ r. ⌜ now (coordinates .exit) ≡
-        propagateAll (now (triangles .entry)) (tablesOf (now (scratch .entry))) (n - 2) (n - 2) (now (coordinates .entry)) ⌝ }
+fn propagate_all(n: usize, coordinates: &mut [i64], scratch: &[i64])
+    requires { ⌜ Readable n (length (now scratch)) (peeling (now scratch)) × (length (now coordinates) ≡ coordinatesLength n)
+        × ((k : ℕ) → k < n - 2 → Around n (length (now scratch)) (peeling (now scratch)) (peeling (now scratch) .order k))
+        × ((k : ℕ) → k < n - 2 → Ceiling (peeling (now scratch)) (peeling (now scratch) .order (n - 2 - suc k))
+        (propagateAll (peeling (now scratch)) (n - 2) k (now coordinates))) ⌝ }
+    ensures { λ r. ⌜ now (coordinates .exit) ≡ propagateAll (peeling (now (scratch .entry))) (n - 2) (n - 2) (now (coordinates .entry)) ⌝ }
 {
     let mut k = 0;
     while k + 2 < n {
-        let v = labels_tables::removed_vertex(scratch, n - 3 - k);
-        propagate(triangles, coordinates, scratch, v);
+        let v = removed_vertex(scratch, n - 3 - k);
+        propagate(coordinates, scratch, v);
         k += 1;
     }
 }
 
 // the third coordinate of vertex v, where the three sum to `total`
 fn write_third(coordinates: &mut [i64], total: i64, v: usize)
-    requires { ⌜ (v < 65536) × (3 * v + 2 < length (now coordinates)) × (natAbs total ≤ limit) × (natAbs (coordinate (now coordinates) 0 v) ≤ limit)
+    requires { ⌜ (3 * v + 2 < length (now coordinates)) × (natAbs total ≤ limit) × (natAbs (coordinate (now coordinates) 0 v) ≤ limit)
         × (natAbs (coordinate (now coordinates) 1 v) ≤ limit) ⌝ }
     ensures { λ r. ⌜ now (coordinates .exit) ≡
         set (now (coordinates .entry)) (3 * v + 2) (total -ℤ coordinate (now (coordinates .entry)) 0 v -ℤ coordinate (now (coordinates .entry)) 1 v) ⌝ }
 {
-    let b0 = int64::coordinate_of(coordinates, 0, v);
-    let b1 = int64::coordinate_of(coordinates, 1, v);
+    let b0 = int64::get(coordinates, 3 * v);
+    let b1 = int64::get(coordinates, 3 * v + 1);
     let b2 = int64::minus(int64::minus(total, b0), b1);
     int64::put(coordinates, 3 * v + 2, b2);
 }
 
 // The third coordinate of every vertex, from the two others: the three sum to N, which is coordinate 0 of v0.
-pub fn write_thirds(n: usize, triangles: &[u16], coordinates: &mut [i64])
-    requires { ⌜ ThirdsPre n (now triangles) (now coordinates) ⌝ }
-    ensures { λ r. ⌜ ThirdsWritten n (coordinate (now (coordinates .entry)) 0 (org (now (triangles .entry)) 0)) (now (coordinates .entry))
-        (now (coordinates .exit)) ⌝ }
+pub fn write_thirds(n: usize, coordinates: &mut [i64], v0: usize)
+    requires { ⌜ ThirdsPre n v0 (now coordinates) ⌝ }
+    ensures { λ r. ⌜ ThirdsWritten n (coordinate (now (coordinates .entry)) 0 v0) (now (coordinates .entry)) (now (coordinates .exit)) ⌝ }
 {
-    let total = int64::coordinate_of(coordinates, 0, scratch_tables::origin(triangles, 0));
+    let total = int64::get(coordinates, 3 * v0);
     let mut v = 0;
     while v < n {
         write_third(coordinates, total, v);
@@ -267,21 +206,16 @@ pub fn write_thirds(n: usize, triangles: &[u16], coordinates: &mut [i64])
 }
 
 // The coordinates that the weights give, written. What the lent coordinates hold before does not matter.
-pub fn write_coordinates(
-    n: usize,
-    triangles: &[u16],
-    weights: &[i64],
-    coordinates: &mut [i64],
-    scratch: &[i64],
-)
-    requires { ⌜ ((ls : List ℕ) × Peeled n (now triangles) ls (now scratch)) × (length (now weights) ≡ weightsLength n) × (row9 (now weights) ≡ false)
+pub fn write_coordinates(n: usize, weights: &[i64], coordinates: &mut [i64], scratch: &[i64])
+    requires { ⌜ ((ts : List ℕ) × (ls : List ℕ) × Peeled n ts ls (now scratch)) × (length (now weights) ≡ weightsLength n) × (row9 (now weights) ≡ false)
         × (length (now coordinates) ≡ coordinatesLength n) ⌝ }
-    ensures { λ r. ⌜ ((ls : List ℕ) → Peeled n (now (triangles .entry)) ls (now (scratch .entry)) →
-        now (coordinates .exit) ≡ forward n (now (triangles .entry)) ls (now (weights .entry))) ⌝ }
+    ensures { λ r. ⌜ ((ts ls : List ℕ) → Peeled n ts ls (now (scratch .entry)) → now (coordinates .exit) ≡ forward n ts ls (now (weights .entry))) ⌝ }
 {
     scratch_tables::clear(coordinates);
-    accumulate_all(n, triangles, weights, coordinates, scratch);
-    place_corners(triangles, coordinates);
-    propagate_all(n, triangles, coordinates, scratch);
-    write_thirds(n, triangles, coordinates);
+    accumulate_all(n, weights, coordinates, scratch);
+    let v0 = origin(scratch, 0);
+    let v1 = origin(scratch, 2);
+    place_corners(coordinates, v0, v1);
+    propagate_all(n, coordinates, scratch);
+    write_thirds(n, coordinates, v0);
 }

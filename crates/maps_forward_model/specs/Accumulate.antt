@@ -1,6 +1,6 @@
 -- The way down: after all vertices have left, each holds the sums that were on its left and on its right when it left, and v1 holds N.
 -- Assumes nothing.
-use Prim.Native.Nat.{ℕ, suc, _+_, _-_, _*_, _/_, _≤_, _<_}
+use Prim.Native.Nat.{ℕ, suc, _-_, _*_, _/_, _≤_, _<_}
 use mathlib.Core.Path.{_≡_, refl, sym, ap, _∙_, subst}
 use mathlib.Core.Logic.{_≢_, inl, inr}
 use mathlib.Core.List.{List, [], _∷_, List·Memᴰ·head, List·Memᴰ·tail, Memᴰ·map, Memᴰ·of-map}
@@ -23,11 +23,11 @@ use Rattle.theory_realizer.specs.Edges.{edge-org}
 use Rattle.theory_crossings.specs.Colours.{outer-below, from-v0-to-v2, from-v1-to-v2}
 use Rattle.theory_crossings.specs.Tests.{named}
 use Rattle.theory_inverse.specs.Drawings.{Drawing}
-use Rattle.scratch_tables.specs.Tables.{Tables}
-use Rattle.labels_tables.specs.LabelledTables.{Stored, oppositeIn}
+use Rattle.labels_tables.specs.Peeling.{Peeling}
+use Rattle.labels_tables.specs.LabelledTables.{Stored}
 use Rattle.maps_forward_model.specs.Removals.{Later, Removal, Removals, fan-below, step-new, step-after}
 use Rattle.maps_forward_model.specs.Model.{accumulate, accumulateAll, length-accumulateAll}
-use Rattle.maps_forward_model.specs.RemovalStep.{Room, accumulate-0, accumulate-0v, accumulate-off, accumulate-v, accumulate-new, accumulate-room}
+use Rattle.maps_forward_model.specs.RemovalStep.{Room, Tabled, accumulate-0, accumulate-0v, accumulate-off, accumulate-v, accumulate-new, accumulate-room}
 
 -- the two darts that a step takes away were there
 step-pair : {T : ℕ} {o f : ℕ → ℕ} {e e′ : ℕ} {gs C C′ : List ℕ} → Step T o f e e′ gs C C′ → (e ∈ C) × (e′ ∈ C)
@@ -44,9 +44,9 @@ module _ (T : ℕ) (org opp : ℕ → ℕ) (F : ℕ → ℤ) (bs : List ℤ) whe
   Settled done = coordinate bs 1 (org 2) ≡ F 2
   Settled (step e e′ gs h o f s tr) = (coordinate bs 1 (org e) ≡ F e) × (coordinate bs 0 (org e) ≡ F e′) × Settled tr
 
-module _ {n : ℕ} (ts ls : List ℕ) (sph : Sphere n (length ts / 3) (org ts) (opp ts)) (size : length ts ≡ 3 * (length ts / 3))
-    (R : Realizer n (length ts / 3) (org ts) (opp ts) (label ls) (outer ts)) (t : Tables)
-    (words : (d : ℕ) → d < 3 * (length ts / 3) → oppositeIn (t .op) d ≡ opp ts d) (ws bs : List ℤ) (long : length bs ≡ 3 * n) where
+module _ {n : ℕ} (ts ls : List ℕ) (sph : Sphere n (length ts / 3) (org ts) (opp ts))
+    (R : Realizer n (length ts / 3) (org ts) (opp ts) (label ls) (outer ts)) (fuel : ℕ) (t : Peeling) (tabled : Tabled n fuel ts t) (ws bs : List ℤ)
+    (long : length bs ≡ 3 * n) where
   abbrev T : ℕ
   T = length ts / 3
 
@@ -54,13 +54,13 @@ module _ {n : ℕ} (ts ls : List ℕ) (sph : Sphere n (length ts / 3) (org ts) (
   v = outer ts
 
   abbrev state : ℕ → List ℤ
-  state k = accumulateAll ts t ws k bs
+  state k = accumulateAll fuel t ws k bs
 
   long-state : (k : ℕ) → length (state k) ≡ 3 * n
-  long-state k = length-accumulateAll ts t ws k bs ∙ long
+  long-state k = length-accumulateAll fuel t ws k bs ∙ long
 
   -- one more step
-  state-next : (k i : ℕ) → t .mark (2 * k + 1) ≡ i → state (suc k) ≡ accumulate ts t ws i (state k)
+  state-next : (k i : ℕ) → t .order k ≡ i → state (suc k) ≡ accumulate fuel t ws i (state k)
   unfolding accumulateAll
   state-next k i e = rw e
 
@@ -86,34 +86,34 @@ module _ {n : ℕ} (ts ls : List ℕ) (sph : Sphere n (length ts / 3) (org ts) (
       away (org ts y) (removedVertices T (org ts) (opp ts) tr) i (λ k. g (List·Memᴰ·tail k)) z0 z1
       (turn .starts y (step-new s (Memᴰ·map (edge T (org ts) (opp ts)) m)))
       (edge-org sph x (fan-below f m) ∙ q) in (
-        ih .0 ∙ ap (λ (l : List ℤ). coordinate l 0 i) nx ∙ accumulate-0 ts ls sph size R t words ws turn (st .1) (st .2) (state k) (long-state k) i
+        ih .0 ∙ ap (λ (l : List ℤ). coordinate l 0 i) nx ∙ accumulate-0 ts ls sph R fuel t tabled ws turn (st .1) (st .2) (state k) (long-state k) i
             (λ q. g (List·Memᴰ·head q)),
-        ih .1 ∙ ap (λ (l : List ℤ). coordinate l 1 i) nx ∙ accumulate-off ts ls sph size R t words ws turn (st .1) (st .2) (state k) (long-state k) i off,
+        ih .1 ∙ ap (λ (l : List ℤ). coordinate l 1 i) nx ∙ accumulate-off ts ls sph R fuel t tabled ws turn (st .1) (st .2) (state k) (long-state k) i off,
       )
 
   -- ---- the sums of a drawing
 
   abbrev Rooms : {C : List ℕ} → ℕ → Trace T (org ts) (opp ts) C → Type 0
   Rooms k done = Unit {0}
-  Rooms k (step e e′ gs h o f s tr) = Room ts t ws (t .mark (2 * k + 1)) (state k) × Rooms (suc k) tr
+  Rooms k (step e e′ gs h o f s tr) = Room fuel t ws (t .order k) (state k) × Rooms (suc k) tr
 
   module _ {F B0 B1 : ℕ → ℤ} (D : Drawing T (org ts) (opp ts) (label ls) v (weight ws) F B0 B1) where
     -- one step: the sums of the new frontier
-    held-next : {e e′ : ℕ} {gs C C′ L : List ℕ} (turn : Removal T (org ts) (opp ts) (label ls) v e e′ gs C C′ L) → t .head (org ts e) ≡ e →
-        t .count (org ts e) ≡ e′ →
+    held-next : {e e′ : ℕ} {gs C C′ L : List ℕ} (turn : Removal T (org ts) (opp ts) (label ls) v e e′ gs C C′ L) → t .left (org ts e) ≡ e →
+        t .right (org ts e) ≡ e′ →
         (xs : List ℤ) → length xs ≡ 3 * n → Every (Holds T (org ts) (opp ts) F xs) C →
-        Every (Holds T (org ts) (opp ts) F (accumulate ts t ws (org ts e) xs)) C′
+        Every (Holds T (org ts) (opp ts) F (accumulate fuel t ws (org ts e) xs)) C′
     held-next {e} {e′} {gs} {C} {C′} turn hd ct xs lg k =
         let pair = step-pair (turn .steps) in
         let at : (x : ℕ) → x ∈ C → Holds T (org ts) (opp ts) F xs x = λ x m. every-in (Holds T (org ts) (opp ts) F xs) k m in
-        in-every (Holds T (org ts) (opp ts) F (accumulate ts t ws (org ts e) xs)) C′ (λ x m.
+        in-every (Holds T (org ts) (opp ts) F (accumulate fuel t ws (org ts e) xs)) C′ (λ x m.
         elim (step-after (turn .steps) (turn .apart) m) [
           | inl new ↦
               let g = Memᴰ·of-map (edge T (org ts) (opp ts)) gs new in
-              subst (Holds T (org ts) (opp ts) F (accumulate ts t ws (org ts e) xs)) (g .2)
-              (accumulate-new ts ls sph size R t words ws turn hd ct xs lg D (at e (pair .0)) (at e′ (pair .1)) (g .0) (g .1))
+              subst (Holds T (org ts) (opp ts) F (accumulate fuel t ws (org ts e) xs)) (g .2)
+              (accumulate-new ts ls sph R fuel t tabled ws turn hd ct xs lg D (at e (pair .0)) (at e′ (pair .1)) (g .0) (g .1))
           | inr old ↦
-              accumulate-off ts ls sph size R t words ws turn hd ct xs lg (org ts x)
+              accumulate-off ts ls sph R fuel t tabled ws turn hd ct xs lg (org ts x)
               (λ g l q. old .1 (edge T (org ts) (opp ts) g) (Memᴰ·map (edge T (org ts) (opp ts)) l) (edge-org sph g (fan-below (turn .fan) l) ∙ q))
               ∙ at x (old .0)
         ])
@@ -136,13 +136,13 @@ module _ {n : ℕ} (ts ls : List ℕ) (sph : Sphere n (length ts / 3) (org ts) (
           let b = small e e′ gs C C′ (removedVertices T (org ts) (opp ts) tr) turn in (
             (
               stay .1 ∙ ap (λ (l : List ℤ). coordinate l 1 (org ts e)) nx
-                  ∙ accumulate-v ts ls sph size R t words ws turn (st .1) (st .2) (state k) (long-state k) ∙ at e (pair .0),
+                  ∙ accumulate-v ts ls sph R fuel t tabled ws turn (st .1) (st .2) (state k) (long-state k) ∙ at e (pair .0),
               stay .0 ∙ ap (λ (l : List ℤ). coordinate l 0 (org ts e)) nx
-                  ∙ accumulate-0v ts ls sph size R t words ws turn (st .1) (st .2) (state k) (long-state k) ∙ at e′ (pair .1),
+                  ∙ accumulate-0v ts ls sph R fuel t tabled ws turn (st .1) (st .2) (state k) (long-state k) ∙ at e′ (pair .1),
               rest .0,
             ),
             (
-              rw (st .0) (accumulate-room ts ls sph size R t words ws turn (st .1) (st .2) (state k) (long-state k) D (at e (pair .0)) (at e′ (pair .1)) (b .0)
+              rw (st .0) (accumulate-room ts ls sph R fuel t tabled ws turn (st .1) (st .2) (state k) (long-state k) D (at e (pair .0)) (at e′ (pair .1)) (b .0)
                   (b .1) weights),
               rest .1,
             ),
@@ -164,13 +164,13 @@ module _ {n : ℕ} (ts ls : List ℕ) (sph : Sphere n (length ts / 3) (org ts) (
 
         rooms-at : {C : List ℕ} (tr : Trace T (org ts) (opp ts) C) (j : ℕ) → Stored n T (org ts) (opp ts) t j tr → Rooms j tr → (k : ℕ) →
             j ≤ k → k < n - 2 →
-            Room ts t ws (t .mark (2 * k + 1)) (state k)
+            Room fuel t ws (t .order k) (state k)
         rooms-at done j s r k l h = absurd (omega (arith, s))
         rooms-at (step e e′ gs h o f s tr) j q r k l b =
             elim (ℕ-discrete k j) [
-              | yes p ↦ subst (λ (x : ℕ). Room ts t ws (t .mark (2 * x + 1)) (state x)) (sym p) (r .0)
+              | yes p ↦ subst (λ (x : ℕ). Room fuel t ws (t .order x) (state x)) (sym p) (r .0)
               | no p ↦ rooms-at tr (suc j) (q .3) (r .1) k (omega (arith, p)) b
             ]
 
-        pub rooms : (k : ℕ) → k < n - 2 → Room ts t ws (t .mark (2 * k + 1)) (state k)
+        pub rooms : (k : ℕ) → k < n - 2 → Room fuel t ws (t .order k) (state k)
         rooms k h = rooms-at (R .trace) 0 st (accumulates (R .trace) 0 st tu start .1) k (omega arith) h

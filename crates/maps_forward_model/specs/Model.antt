@@ -11,15 +11,14 @@ use lib.ListN.{length, getD, set, length-set}
 use lib.Seq.{getD-set-same, getD-set-other}
 use lib.IntN.{ℤ, pos, _+ℤ_, +ℤ-idr}
 use borrow.Author.Tests.{eq-eqb, ne-eqb, eqb-true, eqb-false}
-use Rattle.definitions.specs.Mesh.{tri, prev, org, tip}
+use Rattle.definitions.specs.Mesh.{trianglesLength, tri, next, prev}
 use Rattle.definitions.specs.Forward.{weight}
 use Rattle.definitions.specs.Backward.{coordinate}
 use Rattle.laws.specs.Lists.{_∈_}
 use Rattle.laws.specs.Edges.{Dist}
 use Rattle.theory_sphere.specs.Darts.{prev-below}
-use Rattle.scratch_tables.specs.Tables.{Tables}
 use Rattle.theory_realizer.specs.Trace.{Fan, end, more}
-use Rattle.labels_tables.specs.LabelledTables.{oppositeIn}
+use Rattle.labels_tables.specs.Peeling.{Peeling}
 use Rattle.maps_forward_model.specs.Removals.{Onward, onward-more}
 
 -- coordinate c of vertex i
@@ -33,47 +32,52 @@ copy to from bs = set bs to (getD bs from (pos 0))
 unfoldable pub add : ℕ → ℕ → List ℤ → List ℤ
 add to from bs = set bs to (getD bs to (pos 0) +ℤ getD bs from (pos 0))
 
--- the weight of a fan's dart, stored at the vertex where the new frontier dart starts
-unfoldable pub storeWeight : List ℕ → List ℤ → ℕ → List ℤ → List ℤ
-storeWeight ts ws g bs = set bs (wordIndex 1 (org ts (prev g))) (weight ws (tri g))
+-- The darts of a fan from g on, each the next one round its origin, up to the one whose previous dart is `stop`; no more than `fuel` of them.
+unfoldable pub fanFrom : Peeling → ℕ → ℕ → ℕ → List ℕ
+fanFrom t stop zero g = []
+fanFrom t stop (suc fuel) g = g ∷ cond (eqb (prev g) stop) [] (fanFrom t stop fuel (t .turn g))
 
-module _ (ts : List ℕ) (t : Tables) (ws : List ℤ) where
-  -- all of a fan from g on, up to the dart whose previous one is `stop`
-  unfoldable pub storeFan : ℕ → ℕ → ℕ → List ℤ → List ℤ
-  storeFan zero stop g bs = bs
-  storeFan (suc k) stop g bs = cond (eqb (prev g) stop) (storeWeight ts ws g bs) (storeFan k stop (oppositeIn (t .op) (prev g)) (storeWeight ts ws g bs))
+module _ (origin : ℕ → ℕ) (ws : List ℤ) where
+  -- the weight of a fan's dart, stored at the vertex where the new frontier dart starts; those of all its darts
+  unfoldable pub storeWeight : ℕ → List ℤ → List ℤ
+  storeWeight g bs = set bs (wordIndex 1 (origin (prev g))) (weight ws (tri g))
 
+  unfoldable pub stores : List ℕ → List ℤ → List ℤ
+  stores [] bs = bs
+  stores (g ∷ gs) bs = stores gs (storeWeight g bs)
+
+module _ (fuel : ℕ) (t : Peeling) (ws : List ℤ) where
   -- v leaves: it keeps the sum on its right, the weights of its fan are stored, and the two sums beside it go to the first and the last of them
   unfoldable pub keptAndStored : ℕ → List ℤ → List ℤ
-  keptAndStored v bs = storeFan (length ts) (t .count v) (t .head v) (copy (wordIndex 0 v) (wordIndex 1 (org ts (t .count v))) bs)
+  keptAndStored v bs =
+      stores (t .origin) ws (fanFrom t (t .right v) fuel (t .left v)) (copy (wordIndex 0 v) (wordIndex 1 (t .origin (t .right v))) bs)
 
   unfoldable pub withLeftSum : ℕ → List ℤ → List ℤ
-  withLeftSum v bs = add (wordIndex 1 (org ts (prev (t .head v)))) (wordIndex 1 v) (keptAndStored v bs)
+  withLeftSum v bs = add (wordIndex 1 (t .origin (prev (t .left v)))) (wordIndex 1 v) (keptAndStored v bs)
 
   unfoldable pub accumulate : ℕ → List ℤ → List ℤ
-  accumulate v bs = add (wordIndex 1 (org ts (t .count v))) (wordIndex 0 v) (withLeftSum v bs)
+  accumulate v bs = add (wordIndex 1 (t .origin (t .right v))) (wordIndex 0 v) (withLeftSum v bs)
 
   unfoldable pub accumulateAll : ℕ → List ℤ → List ℤ
   accumulateAll zero bs = bs
-  accumulateAll (suc k) bs = accumulate (t .mark (2 * k + 1)) (accumulateAll k bs)
+  accumulateAll (suc k) bs = accumulate (t .order k) (accumulateAll k bs)
 
-module _ (ts : List ℕ) where
-  -- v0 and v1 at their corners: what has come down to v1 is N
-  unfoldable pub withCorners : List ℤ → List ℤ
-  withCorners bs = copy (wordIndex 0 (org ts 0)) (wordIndex 1 (org ts 2)) (set (set bs (wordIndex 1 (org ts 0)) (pos 0)) (wordIndex 0 (org ts 2)) (pos 0))
+-- v0 and v1 at their corners: what has come down to v1 is N
+unfoldable pub withCorners : ℕ → ℕ → List ℤ → List ℤ
+withCorners v0 v1 bs = copy (wordIndex 0 v0) (wordIndex 1 v1) (set (set bs (wordIndex 1 v0) (pos 0)) (wordIndex 0 v1) (pos 0))
 
-module _ (ts : List ℕ) (t : Tables) where
+module _ (t : Peeling) where
   -- v comes back: b1 from its left neighbour, b0 from its right one
   unfoldable pub withLeftB1 : ℕ → List ℤ → List ℤ
-  withLeftB1 v bs = add (wordIndex 1 v) (wordIndex 1 (tip ts (t .head v))) bs
+  withLeftB1 v bs = add (wordIndex 1 v) (wordIndex 1 (t .origin (next (t .left v)))) bs
 
   unfoldable pub propagate : ℕ → List ℤ → List ℤ
-  propagate v bs = add (wordIndex 0 v) (wordIndex 0 (org ts (t .count v))) (withLeftB1 v bs)
+  propagate v bs = add (wordIndex 0 v) (wordIndex 0 (t .origin (t .right v))) (withLeftB1 v bs)
 
   -- the last k of m vertices that left
   unfoldable pub propagateAll : ℕ → ℕ → List ℤ → List ℤ
   propagateAll m zero bs = bs
-  propagateAll m (suc k) bs = propagate (t .mark (2 * (m - suc k) + 1)) (propagateAll m k bs)
+  propagateAll m (suc k) bs = propagate (t .order (m - suc k)) (propagateAll m k bs)
 
 -- ---- one word changed
 
@@ -126,123 +130,130 @@ add-where bs i c′ i′ j h = go (eqb j i) refl
 
 -- ---- a fan stored
 
-pub length-storeWeight : (ts : List ℕ) (ws : List ℤ) (g : ℕ) (bs : List ℤ) → length (storeWeight ts ws g bs) ≡ length bs
-unfolding storeWeight
-length-storeWeight ts ws g bs = length-set bs (wordIndex 1 (org ts (prev g))) (weight ws (tri g))
-
-module _ (ts : List ℕ) (ws : List ℤ) where
-  unfoldable pub stores : List ℕ → List ℤ → List ℤ
-  stores [] bs = bs
-  stores (g ∷ gs) bs = stores gs (storeWeight ts ws g bs)
-
-  storeWeight-at : (x : ℕ) (bs : List ℤ) → wordIndex 1 (org ts (prev x)) < length bs → coordinate (storeWeight ts ws x bs) 1 (org ts (prev x))
-      ≡ weight ws (tri x)
+module _ (origin : ℕ → ℕ) (ws : List ℤ) where
+  pub length-storeWeight : (g : ℕ) (bs : List ℤ) → length (storeWeight origin ws g bs) ≡ length bs
   unfolding storeWeight
-  storeWeight-at x bs h = set-at bs (weight ws (tri x)) 1 (org ts (prev x)) h
+  length-storeWeight g bs = length-set bs (wordIndex 1 (origin (prev g))) (weight ws (tri g))
 
-  pub length-stores : (gs : List ℕ) (bs : List ℤ) → length (stores gs bs) ≡ length bs
+  storeWeight-at : (x : ℕ) (bs : List ℤ) → wordIndex 1 (origin (prev x)) < length bs →
+      coordinate (storeWeight origin ws x bs) 1 (origin (prev x)) ≡ weight ws (tri x)
+  unfolding storeWeight
+  storeWeight-at x bs h = set-at bs (weight ws (tri x)) 1 (origin (prev x)) h
+
+  pub length-stores : (gs : List ℕ) (bs : List ℤ) → length (stores origin ws gs bs) ≡ length bs
   unfolding stores
   length-stores [] bs = refl
-  length-stores (g ∷ gs) bs = length-stores gs (storeWeight ts ws g bs) ∙ length-storeWeight ts ws g bs
+  length-stores (g ∷ gs) bs = length-stores gs (storeWeight origin ws g bs) ∙ length-storeWeight g bs
 
   -- words that it does not come to
-  pub stores-0 : (gs : List ℕ) (bs : List ℤ) (i : ℕ) → coordinate (stores gs bs) 0 i ≡ coordinate bs 0 i
+  pub stores-0 : (gs : List ℕ) (bs : List ℤ) (i : ℕ) → coordinate (stores origin ws gs bs) 0 i ≡ coordinate bs 0 i
   unfolding stores storeWeight
   stores-0 [] bs i = refl
   stores-0 (g ∷ gs) bs i =
-      stores-0 gs (storeWeight ts ws g bs) i ∙ set-off bs (weight ws (tri g)) (wordIndex 1 (org ts (prev g))) 0 i (omega arith)
+      stores-0 gs (storeWeight origin ws g bs) i ∙ set-off bs (weight ws (tri g)) (wordIndex 1 (origin (prev g))) 0 i (omega arith)
 
-  pub stores-off : (gs : List ℕ) (bs : List ℤ) (i : ℕ) → ((g : ℕ) → g ∈ gs → org ts (prev g) ≢ i) →
-      coordinate (stores gs bs) 1 i ≡ coordinate bs 1 i
+  pub stores-off : (gs : List ℕ) (bs : List ℤ) (i : ℕ) → ((g : ℕ) → g ∈ gs → origin (prev g) ≢ i) →
+      coordinate (stores origin ws gs bs) 1 i ≡ coordinate bs 1 i
   unfolding stores storeWeight
   stores-off [] bs i h = refl
   stores-off (g ∷ gs) bs i h =
-      stores-off gs (storeWeight ts ws g bs) i (λ x m. h x (List·Memᴰ·tail m))
-      ∙ set-off bs (weight ws (tri g)) (wordIndex 1 (org ts (prev g))) 1 i (omega (arith, h g (List·Memᴰ·head refl)))
+      stores-off gs (storeWeight origin ws g bs) i (λ x m. h x (List·Memᴰ·tail m))
+      ∙ set-off bs (weight ws (tri g)) (wordIndex 1 (origin (prev g))) 1 i (omega (arith, h g (List·Memᴰ·head refl)))
 
   -- those that it comes to, if it comes to none twice
-  pub stores-at : (gs : List ℕ) (bs : List ℤ) → Dist (λ g. org ts (prev g)) gs →
-      ((g : ℕ) → g ∈ gs → wordIndex 1 (org ts (prev g)) < length bs) → (g : ℕ) → g ∈ gs →
-      coordinate (stores gs bs) 1 (org ts (prev g)) ≡ weight ws (tri g)
+  pub stores-at : (gs : List ℕ) (bs : List ℤ) → Dist (λ g. origin (prev g)) gs →
+      ((g : ℕ) → g ∈ gs → wordIndex 1 (origin (prev g)) < length bs) → (g : ℕ) → g ∈ gs →
+      coordinate (stores origin ws gs bs) 1 (origin (prev g)) ≡ weight ws (tri g)
   unfolding stores
   stores-at [] bs δ h g m = absurd (List·Memᴰ·not-nil m)
   stores-at (x ∷ gs) bs δ h g m =
       elim (List·Memᴰ·cases-cons m) [
         | inl e ↦
             rw e
-            (stores-off gs (storeWeight ts ws x bs) (org ts (prev x)) (λ y k q. δ .0 y k (sym q))
+            (stores-off gs (storeWeight origin ws x bs) (origin (prev x)) (λ y k q. δ .0 y k (sym q))
             ∙ storeWeight-at x bs (h x (List·Memᴰ·head refl)))
-        | inr k ↦ stores-at gs (storeWeight ts ws x bs) (δ .1) (λ y l. rw (length-storeWeight ts ws x bs) (h y (List·Memᴰ·tail l))) g k
+        | inr k ↦ stores-at gs (storeWeight origin ws x bs) (δ .1) (λ y l. rw (length-storeWeight x bs) (h y (List·Memᴰ·tail l))) g k
       ]
+
+-- the same from origins that agree on the fan
+pub stores-same : (o origin : ℕ → ℕ) (ws : List ℤ) (gs : List ℕ) (bs : List ℤ) → ((g : ℕ) → g ∈ gs → o (prev g) ≡ origin (prev g)) →
+    stores o ws gs bs ≡ stores origin ws gs bs
+unfolding stores storeWeight
+stores-same o origin ws [] bs e = refl
+stores-same o origin ws (g ∷ gs) bs e =
+    rw (e g (List·Memᴰ·head refl))
+    (stores-same o origin ws gs (set bs (wordIndex 1 (origin (prev g))) (weight ws (tri g))) (λ x m. e x (List·Memᴰ·tail m)))
 
 -- ---- lengths stay
 
-module _ (ts : List ℕ) (t : Tables) (ws : List ℤ) where
-  either : (b : Bool) (k : ℕ) (xs ys : List ℤ) → length xs ≡ k → length ys ≡ k → length (cond b xs ys) ≡ k
-  either true k xs ys p q = p
-  either false k xs ys p q = q
-
-  pub length-storeFan : (k stop g : ℕ) (bs : List ℤ) → length (storeFan ts t ws k stop g bs) ≡ length bs
-  unfolding storeFan
-  length-storeFan zero stop g bs = refl
-  length-storeFan (suc k) stop g bs =
-      either (eqb (prev g) stop) (length bs) (storeWeight ts ws g bs) (storeFan ts t ws k stop (oppositeIn (t .op) (prev g)) (storeWeight ts ws g bs))
-      (length-storeWeight ts ws g bs)
-      (length-storeFan k stop (oppositeIn (t .op) (prev g)) (storeWeight ts ws g bs) ∙ length-storeWeight ts ws g bs)
-
-  pub length-keptAndStored : (v : ℕ) (bs : List ℤ) → length (keptAndStored ts t ws v bs) ≡ length bs
+module _ (fuel : ℕ) (t : Peeling) (ws : List ℤ) where
+  pub length-keptAndStored : (v : ℕ) (bs : List ℤ) → length (keptAndStored fuel t ws v bs) ≡ length bs
   unfolding keptAndStored
   length-keptAndStored v bs =
-      length-storeFan (length ts) (t .count v) (t .head v) (copy (wordIndex 0 v) (wordIndex 1 (org ts (t .count v))) bs)
-      ∙ length-copy bs (wordIndex 0 v) (wordIndex 1 (org ts (t .count v)))
+      length-stores (t .origin) ws (fanFrom t (t .right v) fuel (t .left v)) (copy (wordIndex 0 v) (wordIndex 1 (t .origin (t .right v))) bs)
+      ∙ length-copy bs (wordIndex 0 v) (wordIndex 1 (t .origin (t .right v)))
 
-  pub length-withLeftSum : (v : ℕ) (bs : List ℤ) → length (withLeftSum ts t ws v bs) ≡ length bs
+  pub length-withLeftSum : (v : ℕ) (bs : List ℤ) → length (withLeftSum fuel t ws v bs) ≡ length bs
   unfolding withLeftSum
-  length-withLeftSum v bs = length-add (keptAndStored ts t ws v bs) (wordIndex 1 (org ts (prev (t .head v)))) (wordIndex 1 v) ∙ length-keptAndStored v bs
+  length-withLeftSum v bs =
+      length-add (keptAndStored fuel t ws v bs) (wordIndex 1 (t .origin (prev (t .left v)))) (wordIndex 1 v) ∙ length-keptAndStored v bs
 
-  pub length-accumulate : (v : ℕ) (bs : List ℤ) → length (accumulate ts t ws v bs) ≡ length bs
+  pub length-accumulate : (v : ℕ) (bs : List ℤ) → length (accumulate fuel t ws v bs) ≡ length bs
   unfolding accumulate
-  length-accumulate v bs = length-add (withLeftSum ts t ws v bs) (wordIndex 1 (org ts (t .count v))) (wordIndex 0 v) ∙ length-withLeftSum v bs
+  length-accumulate v bs =
+      length-add (withLeftSum fuel t ws v bs) (wordIndex 1 (t .origin (t .right v))) (wordIndex 0 v) ∙ length-withLeftSum v bs
 
-  pub length-accumulateAll : (k : ℕ) (bs : List ℤ) → length (accumulateAll ts t ws k bs) ≡ length bs
+  pub length-accumulateAll : (k : ℕ) (bs : List ℤ) → length (accumulateAll fuel t ws k bs) ≡ length bs
   unfolding accumulateAll
   length-accumulateAll zero bs = refl
-  length-accumulateAll (suc k) bs = length-accumulate (t .mark (2 * k + 1)) (accumulateAll ts t ws k bs) ∙ length-accumulateAll k bs
+  length-accumulateAll (suc k) bs = length-accumulate (t .order k) (accumulateAll fuel t ws k bs) ∙ length-accumulateAll k bs
 
-module _ (ts : List ℕ) where
-  pub length-withCorners : (bs : List ℤ) → length (withCorners ts bs) ≡ length bs
-  unfolding withCorners
-  length-withCorners bs =
-      length-copy (set (set bs (wordIndex 1 (org ts 0)) (pos 0)) (wordIndex 0 (org ts 2)) (pos 0)) (wordIndex 0 (org ts 0)) (wordIndex 1 (org ts 2))
-      ∙ length-set (set bs (wordIndex 1 (org ts 0)) (pos 0)) (wordIndex 0 (org ts 2)) (pos 0) ∙ length-set bs (wordIndex 1 (org ts 0)) (pos 0)
+pub length-withCorners : (v0 v1 : ℕ) (bs : List ℤ) → length (withCorners v0 v1 bs) ≡ length bs
+unfolding withCorners
+length-withCorners v0 v1 bs =
+    length-copy (set (set bs (wordIndex 1 v0) (pos 0)) (wordIndex 0 v1) (pos 0)) (wordIndex 0 v0) (wordIndex 1 v1)
+    ∙ length-set (set bs (wordIndex 1 v0) (pos 0)) (wordIndex 0 v1) (pos 0) ∙ length-set bs (wordIndex 1 v0) (pos 0)
 
-module _ (ts : List ℕ) (t : Tables) where
-  pub length-withLeftB1 : (v : ℕ) (bs : List ℤ) → length (withLeftB1 ts t v bs) ≡ length bs
+module _ (t : Peeling) where
+  pub length-withLeftB1 : (v : ℕ) (bs : List ℤ) → length (withLeftB1 t v bs) ≡ length bs
   unfolding withLeftB1
-  length-withLeftB1 v bs = length-add bs (wordIndex 1 v) (wordIndex 1 (tip ts (t .head v)))
+  length-withLeftB1 v bs = length-add bs (wordIndex 1 v) (wordIndex 1 (t .origin (next (t .left v))))
 
-  pub length-propagate : (v : ℕ) (bs : List ℤ) → length (propagate ts t v bs) ≡ length bs
+  pub length-propagate : (v : ℕ) (bs : List ℤ) → length (propagate t v bs) ≡ length bs
   unfolding propagate
-  length-propagate v bs = length-add (withLeftB1 ts t v bs) (wordIndex 0 v) (wordIndex 0 (org ts (t .count v))) ∙ length-withLeftB1 v bs
+  length-propagate v bs = length-add (withLeftB1 t v bs) (wordIndex 0 v) (wordIndex 0 (t .origin (t .right v))) ∙ length-withLeftB1 v bs
 
-  pub length-propagateAll : (m k : ℕ) (bs : List ℤ) → length (propagateAll ts t m k bs) ≡ length bs
+  pub length-propagateAll : (m k : ℕ) (bs : List ℤ) → length (propagateAll t m k bs) ≡ length bs
   unfolding propagateAll
   length-propagateAll m zero bs = refl
-  length-propagateAll m (suc k) bs = length-propagate (t .mark (2 * (m - suc k) + 1)) (propagateAll ts t m k bs) ∙ length-propagateAll m k bs
+  length-propagateAll m (suc k) bs = length-propagate (t .order (m - suc k)) (propagateAll t m k bs) ∙ length-propagateAll m k bs
 
--- the loop stores a whole fan, if the words of the darts have their opposites
-module _ (ts : List ℕ) (t : Tables) (ws : List ℤ) {T : ℕ} {o f : ℕ → ℕ} (e′ : ℕ) (twice : (d : ℕ) → d < 3 * T →
-    f (f d) ≡ d) (h′ : e′ < 3 * T)
-    (words : (d : ℕ) → d < 3 * T → oppositeIn (t .op) d ≡ f d) where
-  pub storeFan-stores : {g : ℕ} {gs : List ℕ} (k : ℕ) (bs : List ℤ) → Fan T o f (f e′) g gs → Onward (f e′) gs → length gs ≤ k →
-      storeFan ts t ws k e′ g bs ≡ stores ts ws gs bs
-  unfolding storeFan stores
-  storeFan-stores zero bs (end h q) a l = absurd (omega arith)
-  storeFan-stores zero bs (more h s) a l = absurd (omega arith)
-  storeFan-stores (suc k) bs (end {g} h q) a l =
-      let e : prev g ≡ e′ = sym (twice (prev g) (prev-below T g h)) ∙ ap f q ∙ twice e′ h′ in
-      rw (eq-eqb (prev g) e′ e)
-  storeFan-stores (suc k) bs (more {g} {gs} h s) a l =
+-- ---- a fan that comes to its end
+
+-- Its darts are those of inner triangles, in a mesh of n vertices.
+pub record InnerDart (n g : ℕ) : Type 0 where
+  pub inner : 0 < tri g
+  pub below : g < trianglesLength n
+
+pub data Turns (n : ℕ) (t : Peeling) (stop : ℕ) : ℕ → List ℕ → Type 0 where
+  stops : {g : ℕ} → InnerDart n g → prev g ≡ stop → Turns n t stop g (g ∷ [])
+  goes : {g : ℕ} {gs : List ℕ} → InnerDart n g → prev g ≢ stop → Turns n t stop (t .turn g) gs → Turns n t stop g (g ∷ gs)
+
+pub fanFrom-is : {n : ℕ} {t : Peeling} {stop g : ℕ} {gs : List ℕ} (fuel : ℕ) → Turns n t stop g gs → length gs ≤ fuel →
+    fanFrom t stop fuel g ≡ gs
+unfolding fanFrom
+fanFrom-is zero (stops i e) l = absurd (omega arith)
+fanFrom-is zero (goes i e w) l = absurd (omega arith)
+fanFrom-is {stop = stop} (suc fuel) (stops {g} i e) l = rw (eq-eqb (prev g) stop e)
+fanFrom-is {stop = stop} (suc fuel) (goes {g} i e w) l = rw (ne-eqb (prev g) stop e, fanFrom-is fuel w (omega arith))
+
+-- a fan of the mesh is one, if the darts' words have their turns
+module _ {n T : ℕ} {o f : ℕ → ℕ} (t : Peeling) (size : 3 * T ≡ trianglesLength n) (e′ : ℕ) (twice : (d : ℕ) → d < 3 * T → f (f d) ≡ d) (h′ : e′ < 3 * T)
+    (turns : (d : ℕ) → d < 3 * T → t .turn d ≡ f (prev d)) where
+  pub fan-turns : {g : ℕ} {gs : List ℕ} → Fan T o f (f e′) g gs → Onward (f e′) gs → ((x : ℕ) → x ∈ gs → 0 < tri x) → Turns n t e′ g gs
+  fan-turns (end {g} h q) a i =
+      stops (record { inner = i g (List·Memᴰ·head refl); below = omega (arith, size) }) (sym (twice (prev g) (prev-below T g h)) ∙ ap f q ∙ twice e′ h′)
+  fan-turns (more {g} {gs} h s) a i =
       let b = onward-more s a in
-      let e : prev g ≢ e′ = λ q. b .0 (ap f q) in
-      rw (ne-eqb (prev g) e′ e, words (prev g) (prev-below T g h)) (storeFan-stores k (storeWeight ts ws g bs) s (b .1) (omega arith))
+      goes {gs = gs} (record { inner = i g (List·Memᴰ·head refl); below = omega (arith, size) }) (λ q. b .0 (ap f q))
+      (rw (turns g h) (fan-turns s (b .1) (λ x m. i x (List·Memᴰ·tail m))))

@@ -7,7 +7,7 @@ use native.Mathlib.Omega.{arith}
 use native.Mathlib.Decide.{ℕ-discrete}
 use lib.ListN.{length, set, length-set}
 use lib.IntN.{ℤ, pos, natAbs, _+ℤ_, +ℤ-idr}
-use Rattle.definitions.specs.Mesh.{next, org, tip, opp}
+use Rattle.definitions.specs.Mesh.{next, org, opp}
 use Rattle.definitions.specs.Labels.{outer, label}
 use Rattle.definitions.specs.Backward.{coordinate}
 use Rattle.definitions.specs.Repair.{limit}
@@ -20,7 +20,7 @@ use Rattle.theory_sphere.specs.Rotations.{tip-opp}
 use Rattle.theory_crossings.specs.Colours.{outer-below, from-v1-to-v0, from-v0-to-v1}
 use Rattle.theory_crossings.specs.Tests.{named}
 use Rattle.theory_inverse.specs.Drawings.{Drawing}
-use Rattle.scratch_tables.specs.Tables.{Tables}
+use Rattle.labels_tables.specs.Peeling.{Peeling}
 use Rattle.labels_tables.specs.LabelledTables.{Stored}
 use Rattle.maps_forward_model.specs.Removals.{Later, Removal, Removals}
 use Rattle.maps_forward_model.specs.Model.{wordIndex, add, withCorners, withLeftB1, propagate, propagateAll, set-at, set-off, add-at, add-off}
@@ -28,12 +28,13 @@ use Rattle.maps_forward_model.specs.Model.{copy-at, copy-off, length-wit
 use Rattle.maps_forward_model.specs.Accumulate.{Settled}
 
 -- the two additions of a vertex that comes back have room
-pub record Ceiling (ts : List ℕ) (t : Tables) (v : ℕ) (bs : List ℤ) : Type 0 where
-  pub left : natAbs (coordinate bs 1 v) + natAbs (coordinate bs 1 (tip ts (t .head v))) < 2 ^ 63
-  pub right : natAbs (coordinate (withLeftB1 ts t v bs) 0 v) + natAbs (coordinate (withLeftB1 ts t v bs) 0 (org ts (t .count v))) < 2 ^ 63
+pub record Ceiling (t : Peeling) (v : ℕ) (bs : List ℤ) : Type 0 where
+  pub left : natAbs (coordinate bs 1 v) + natAbs (coordinate bs 1 (t .origin (next (t .left v)))) < 2 ^ 63
+  pub right : natAbs (coordinate (withLeftB1 t v bs) 0 v) + natAbs (coordinate (withLeftB1 t v bs) 0 (t .origin (t .right v))) < 2 ^ 63
 
 module _ {n : ℕ} (ts ls : List ℕ) (sph : Sphere n (length ts / 3) (org ts) (opp ts))
-    (R : Realizer n (length ts / 3) (org ts) (opp ts) (label ls) (outer ts)) (t : Tables) {F B0 B1 w : ℕ → ℤ}
+    (R : Realizer n (length ts / 3) (org ts) (opp ts) (label ls) (outer ts)) (t : Peeling)
+    (origins : (d : ℕ) → d < 3 * (length ts / 3) → t .origin d ≡ org ts d) {F B0 B1 w : ℕ → ℤ}
     (D : Drawing (length ts / 3) (org ts) (opp ts) (label ls) (outer ts) w F B0 B1) where
   abbrev T : ℕ
   T = length ts / 3
@@ -82,16 +83,17 @@ module _ {n : ℕ} (ts ls : List ℕ) (sph : Sphere n (length ts / 3) (org ts) (
 
     -- all other words are as they were
     withCorners-off : (c i : ℕ) → wordIndex c i ≢ wordIndex 0 (org ts 0) → wordIndex c i ≢ wordIndex 1 (org ts 0) →
-        wordIndex c i ≢ wordIndex 0 (org ts 2) → coordinate (withCorners ts bs) c i ≡ coordinate bs c i
+        wordIndex c i ≢ wordIndex 0 (org ts 2) → coordinate (withCorners (org ts 0) (org ts 2) bs) c i ≡ coordinate bs c i
     unfolding withCorners
     withCorners-off c i p q r =
         copy-off both (wordIndex 0 (org ts 0)) (wordIndex 1 (org ts 2)) c i p ∙ set-off once (pos 0) (wordIndex 0 (org ts 2)) c i r
         ∙ set-off bs (pos 0) (wordIndex 1 (org ts 0)) c i q
 
-    withCorners-v1 : coordinate (withCorners ts bs) 1 (org ts 2) ≡ coordinate bs 1 (org ts 2)
+    withCorners-v1 : coordinate (withCorners (org ts 0) (org ts 2) bs) 1 (org ts 2) ≡ coordinate bs 1 (org ts 2)
     withCorners-v1 = withCorners-off 1 (org ts 2) (omega arith) (omega (arith, apart02)) (omega arith)
 
-    pub corners-stand : coordinate bs 1 (org ts 2) ≡ F 2 → Stands (withCorners ts bs) (org ts 0) × Stands (withCorners ts bs) (org ts 2)
+    pub corners-stand : coordinate bs 1 (org ts 2) ≡ F 2 → Stands (withCorners (org ts 0) (org ts 2) bs) (org ts 0)
+        × Stands (withCorners (org ts 0) (org ts 2) bs) (org ts 2)
     unfolding withCorners
     corners-stand e =
         let k = N-is in
@@ -114,7 +116,7 @@ module _ {n : ℕ} (ts ls : List ℕ) (sph : Sphere n (length ts / 3) (org ts) (
     -- the others hold what they held
     pub settled-withCorners : {C : List ℕ} (tr : Trace T (org ts) (opp ts) C) → Removals T (org ts) (opp ts) (label ls) v tr →
         Settled T (org ts) (opp ts) F bs tr →
-        Settled T (org ts) (opp ts) F (withCorners ts bs) tr
+        Settled T (org ts) (opp ts) F (withCorners (org ts 0) (org ts 2) bs) tr
     settled-withCorners done tu k = withCorners-v1 ∙ k
     settled-withCorners (step e e′ gs h o f s tr) tu k =
         let a = tu .0 .not0 in
@@ -127,26 +129,32 @@ module _ {n : ℕ} (ts ls : List ℕ) (sph : Sphere n (length ts / 3) (org ts) (
   -- ---- one vertex comes back
 
   module _ {e e′ : ℕ} {gs C C′ L : List ℕ} (turn : Removal T (org ts) (opp ts) (label ls) v e e′ gs C C′ L)
-      (head : t .head (org ts e) ≡ e) (count : t .count (org ts e) ≡ e′) (xs : List ℤ) (long : length xs ≡ 3 * n) where
-    withLeftB1-is : withLeftB1 ts t (org ts e) xs ≡ add (wordIndex 1 (org ts e)) (wordIndex 1 (org ts (next e))) xs
-    unfolding withLeftB1 tip
-    withLeftB1-is = rw head
+      (head : t .left (org ts e) ≡ e) (count : t .right (org ts e) ≡ e′) (xs : List ℤ) (long : length xs ≡ 3 * n) where
+    left-origin : t .origin (next e) ≡ org ts (next e)
+    left-origin = origins (next e) (next-below T e (turn .below))
 
-    propagate-is : propagate ts t (org ts e) xs ≡ add (wordIndex 0 (org ts e)) (wordIndex 0 (org ts e′)) (withLeftB1 ts t (org ts e) xs)
+    right-origin : t .origin e′ ≡ org ts e′
+    right-origin = origins e′ (turn .below′)
+
+    withLeftB1-is : withLeftB1 t (org ts e) xs ≡ add (wordIndex 1 (org ts e)) (wordIndex 1 (org ts (next e))) xs
+    unfolding withLeftB1
+    withLeftB1-is = rw (head, left-origin)
+
+    propagate-is : propagate t (org ts e) xs ≡ add (wordIndex 0 (org ts e)) (wordIndex 0 (org ts e′)) (withLeftB1 t (org ts e) xs)
     unfolding propagate
-    propagate-is = rw count
+    propagate-is = rw (count, right-origin)
 
     v-in : org ts e < n
     v-in = sph .vertex e (turn .below)
 
-    withLeftB1-0 : (i : ℕ) → coordinate (withLeftB1 ts t (org ts e) xs) 0 i ≡ coordinate xs 0 i
+    withLeftB1-0 : (i : ℕ) → coordinate (withLeftB1 t (org ts e) xs) 0 i ≡ coordinate xs 0 i
     withLeftB1-0 i = ap (λ (l : List ℤ). coordinate l 0 i) withLeftB1-is ∙ add-off xs (wordIndex 1 (org ts e)) (wordIndex 1 (org ts (next e))) 0 i (omega arith)
 
     -- the other vertices keep theirs
-    propagate-off : (i : ℕ) → i ≢ org ts e → (coordinate (propagate ts t (org ts e) xs) 0 i ≡ coordinate xs 0 i)
-        × (coordinate (propagate ts t (org ts e) xs) 1 i ≡ coordinate xs 1 i)
+    propagate-off : (i : ℕ) → i ≢ org ts e → (coordinate (propagate t (org ts e) xs) 0 i ≡ coordinate xs 0 i)
+        × (coordinate (propagate t (org ts e) xs) 1 i ≡ coordinate xs 1 i)
     propagate-off i h =
-        let y = withLeftB1 ts t (org ts e) xs in (
+        let y = withLeftB1 t (org ts e) xs in (
           ap (λ (l : List ℤ). coordinate l 0 i) propagate-is ∙ add-off y (wordIndex 0 (org ts e)) (wordIndex 0 (org ts e′)) 0 i (omega (arith, h))
               ∙ withLeftB1-0 i,
           ap (λ (l : List ℤ). coordinate l 1 i) propagate-is ∙ add-off y (wordIndex 0 (org ts e)) (wordIndex 0 (org ts e′)) 1 i (omega arith)
@@ -156,12 +164,12 @@ module _ {n : ℕ} (ts ls : List ℕ) (sph : Sphere n (length ts / 3) (org ts) (
 
     module _ (left : coordinate xs 1 (org ts e) ≡ F e) (right : coordinate xs 0 (org ts e) ≡ F e′) (l : Stands xs (org ts (next e)))
         (r : Stands xs (org ts e′)) where
-      propagate-stands : Stands (propagate ts t (org ts e) xs) (org ts e)
+      propagate-stands : Stands (propagate t (org ts e) xs) (org ts e)
       propagate-stands =
-          let y = withLeftB1 ts t (org ts e) xs in
+          let y = withLeftB1 t (org ts e) xs in
           let h = turn .below′ in (
             ap (λ (l : List ℤ). coordinate l 0 (org ts e)) propagate-is
-                ∙ add-at y 0 (org ts e) 0 (org ts e′) (omega (arith, length-withLeftB1 ts t (org ts e) xs, long, v-in))
+                ∙ add-at y 0 (org ts e) 0 (org ts e′) (omega (arith, length-withLeftB1 t (org ts e) xs, long, v-in))
                 ∙ ap₂ _+ℤ_ (withLeftB1-0 (org ts e) ∙ right) (withLeftB1-0 (org ts e′) ∙ r .0)
                 ∙ sym (ap B0 (turn .meet ∙ sym (sph .reverses e′ h)) ∙ D .down1 (opp ts e′) (turn .right)
                 ∙ ap₂ _+ℤ_ (D .side e′ h) (ap B0 (tip-opp sph e′ h))),
@@ -174,12 +182,11 @@ module _ {n : ℕ} (ts ls : List ℕ) (sph : Sphere n (length ts / 3) (org ts) (
 
       propagate-room : natAbs (F e) ≤ 2 * limit → natAbs (F e′) ≤ 2 * limit → natAbs (B1 (org ts (next e))) ≤ limit →
           natAbs (B0 (org ts e′)) ≤ limit →
-          Ceiling ts t (org ts e) xs
-      unfolding tip
+          Ceiling t (org ts e) xs
       propagate-room a b c d =
           record {
-            left = rw (head, left, l .1) (omega (arith, a, c));
-            right = rw (count, withLeftB1-0 (org ts e) ∙ right, withLeftB1-0 (org ts e′) ∙ r .0) (omega (arith, b, d));
+            left = rw (head, left-origin, left, l .1) (omega (arith, a, c));
+            right = rw (count, right-origin, withLeftB1-0 (org ts e) ∙ right, withLeftB1-0 (org ts e′) ∙ r .0) (omega (arith, b, d));
           }
 
   -- ---- all of them, from the last that left back to the first
@@ -189,12 +196,12 @@ module _ {n : ℕ} (ts ls : List ℕ) (sph : Sphere n (length ts / 3) (org ts) (
       × (natAbs (F e′) ≤ 2 * limit))
       (near : (i : ℕ) → i < n → (natAbs (B0 i) ≤ limit) × (natAbs (B1 i) ≤ limit)) where
     abbrev after : ℕ → List ℤ
-    after k = propagateAll ts t (n - 2) k bs
+    after k = propagateAll t (n - 2) k bs
 
     long-after : (k : ℕ) → length (after k) ≡ 3 * n
-    long-after k = length-propagateAll ts t (n - 2) k bs ∙ long
+    long-after k = length-propagateAll t (n - 2) k bs ∙ long
 
-    after-next : (j i : ℕ) → j < n - 2 → t .mark (2 * j + 1) ≡ i → after (n - 2 - j) ≡ propagate ts t i (after (n - 2 - suc j))
+    after-next : (j i : ℕ) → j < n - 2 → t .order j ≡ i → after (n - 2 - j) ≡ propagate t i (after (n - 2 - suc j))
     unfolding propagateAll
     after-next j i h e =
         let p : n - 2 - j ≡ suc (n - 2 - suc j) = omega arith in
@@ -211,7 +218,7 @@ module _ {n : ℕ} (ts ls : List ℕ) (sph : Sphere n (length ts / 3) (org ts) (
 
     abbrev Ceilings : {C : List ℕ} → ℕ → Trace T (org ts) (opp ts) C → Type 0
     Ceilings j done = Unit {0}
-    Ceilings j (step e e′ gs h o f s tr) = Ceiling ts t (t .mark (2 * j + 1)) (after (n - 2 - suc j)) × Ceilings (suc j) tr
+    Ceilings j (step e e′ gs h o f s tr) = Ceiling t (t .order j) (after (n - 2 - suc j)) × Ceilings (suc j) tr
 
     -- when those that left from step j on are back
     record Back {C : List ℕ} (j : ℕ) (tr : Trace T (org ts) (opp ts) C) : Type 0 where
@@ -257,7 +264,7 @@ module _ {n : ℕ} (ts ls : List ℕ) (sph : Sphere n (length ts / 3) (org ts) (
         let nr = near (org ts e′) (sph .vertex e′ (turn .below′)) in
         record {
           stands = λ i k. rw nx (elim (ℕ-discrete i (org ts e)) [
-            | yes p ↦ subst (Stands (propagate ts t (org ts e) xs)) (sym p) me
+            | yes p ↦ subst (Stands (propagate t (org ts e) xs)) (sym p) me
             | no p ↦
                 let q = propagate-off turn (st .1) (st .2) xs lg i p in
                 let d = ih .stands i (later-tail (org ts e) L i p k) in
@@ -272,11 +279,11 @@ module _ {n : ℕ} (ts ls : List ℕ) (sph : Sphere n (length ts / 3) (org ts) (
 
     ceilings-at : {C : List ℕ} (tr : Trace T (org ts) (opp ts) C) (j : ℕ) → Stored n T (org ts) (opp ts) t j tr → Ceilings j tr → (k : ℕ) →
         j ≤ k → k < n - 2 →
-        Ceiling ts t (t .mark (2 * k + 1)) (after (n - 2 - suc k))
+        Ceiling t (t .order k) (after (n - 2 - suc k))
     ceilings-at done j s r k l h = absurd (omega (arith, s))
     ceilings-at (step e e′ gs h o f s tr) j q r k l b =
         elim (ℕ-discrete k j) [
-          | yes p ↦ subst (λ (x : ℕ). Ceiling ts t (t .mark (2 * x + 1)) (after (n - 2 - suc x))) (sym p) (r .0)
+          | yes p ↦ subst (λ (x : ℕ). Ceiling t (t .order x) (after (n - 2 - suc x))) (sym p) (r .0)
           | no p ↦ ceilings-at tr (suc j) (q .3) (r .1) k (omega (arith, p)) b
         ]
 
@@ -292,7 +299,7 @@ module _ {n : ℕ} (ts ls : List ℕ) (sph : Sphere n (length ts / 3) (org ts) (
             | no p ↦ elim (ℕ-discrete i (v 1)) [ yes q ↦ inr (inr (q ∙ named ts .v1)) | no q ↦ inl (R .leaves i h p q) ]
           ]))
 
-      pub ceilings : (k : ℕ) → k < n - 2 → Ceiling ts t (t .mark (2 * (n - 2 - suc k) + 1)) (after k)
+      pub ceilings : (k : ℕ) → k < n - 2 → Ceiling t (t .order (n - 2 - suc k)) (after k)
       ceilings k h =
           let z : n - 2 - suc (n - 2 - suc k) ≡ k = omega arith in
           rw z at (ceilings-at (R .trace) 0 st (propagates (R .trace) 0 st tu se .ceilings) (n - 2 - suc k) (omega arith) (omega arith))

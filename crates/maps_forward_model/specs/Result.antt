@@ -10,7 +10,7 @@ use lib.Seq.{ext-getD}
 use lib.IntN.{ℤ, pos, negsuc, negℤ, natAbs, _+ℤ_, _-ℤ_}
 use borrow.Author.Tests.{ltb-false}
 use Rattle.definitions.specs.Lists.{total, totalAbs}
-use Rattle.definitions.specs.Mesh.{weightsLength, next, org, opp}
+use Rattle.definitions.specs.Mesh.{trianglesLength, weightsLength, next, org, opp}
 use Rattle.definitions.specs.Labels.{outer, label}
 use Rattle.definitions.specs.Forward.{weight, forward}
 use Rattle.definitions.specs.Backward.{coordinate}
@@ -29,11 +29,11 @@ use Rattle.theory_repair.specs.Coordinates.{length-forward, coordinate-coordina
 use Rattle.theory_repair.specs.Bounds.{coordinate-bound}
 use Rattle.theory_inverse.specs.Drawings.{Drawing}
 use Rattle.theory_inverse.specs.Maps.{less-plus, through, reached, forward-drawing, through-last, crossedWeight-reached}
-use Rattle.scratch_tables.specs.Tables.{Tables, tablesOf}
-use Rattle.labels_tables.specs.LabelledTables.{Peeled, Stored, oppositeIn, oppositeIn-is}
+use Rattle.labels_tables.specs.Peeling.{Peeling, peeling}
+use Rattle.labels_tables.specs.LabelledTables.{Peeled, Stored}
 use Rattle.maps_forward_model.specs.Removals.{Removal, Removals, all-removals}
-use Rattle.maps_forward_model.specs.Model.{accumulateAll, withCorners, propagateAll, length-accumulateAll, length-withCorners, length-propagateAll}
-use Rattle.maps_forward_model.specs.RemovalStep.{Room}
+use Rattle.maps_forward_model.specs.Model.{Turns, accumulateAll, withCorners, propagateAll, length-accumulateAll, length-withCorners, length-propagateAll}
+use Rattle.maps_forward_model.specs.RemovalStep.{Room, Tabled, fan-tabled, fan-fits}
 use Rattle.maps_forward_model.specs.Accumulate as Accumulate
 use Rattle.maps_forward_model.specs.Propagate as Propagate
 use Rattle.maps_forward_model.specs.Propagate.{Ceiling}
@@ -59,7 +59,7 @@ weight-small ws h (suc x) =
     ]
 
 -- as many vertices leave as there are steps
-stored-length : (n : ℕ) (t : Tables) {T : ℕ} {o f : ℕ → ℕ} {C : List ℕ} (tr : Trace T o f C) (j : ℕ) → Stored n T o f t j tr →
+stored-length : (n : ℕ) (t : Peeling) {T : ℕ} {o f : ℕ → ℕ} {C : List ℕ} (tr : Trace T o f C) (j : ℕ) → Stored n T o f t j tr →
     j + length (removedVertices T o f tr) ≡ n - 2
 unfolding removedVertices
 stored-length n t done j s = omega (arith, s)
@@ -71,6 +71,22 @@ settled-last : (T : ℕ) (o f : ℕ → ℕ) (F : ℕ → ℤ) (bs : List ℤ) {
 settled-last T o f F bs done k = k
 settled-last T o f F bs (step e e′ gs h q a s tr) k = settled-last T o f F bs tr (k .2)
 
+-- What the code reads is in range: the words of a mesh of n vertices in scratch of so many words, and coordinates at its vertices.
+pub record Readable (n words : ℕ) (t : Peeling) : Type 0 where
+  pub most : n ≤ 4096
+  pub least : 3 ≤ n
+  pub room : 10 * n ≤ words
+  pub origins : (d : ℕ) → d < trianglesLength n → t .origin d < n
+
+-- the darts beside a vertex that leaves, and its fan
+pub record Around (n fuel : ℕ) (t : Peeling) (v : ℕ) : Type 0 where
+  pub vertex : v < n
+  pub left : t .left v < trianglesLength n
+  pub right : t .right v < trianglesLength n
+  pub gs : List ℕ
+  pub fan : Turns n t (t .right v) (t .left v) gs
+  pub short : length gs ≤ fuel
+
 -- all words of a list that holds zeros
 zeros-at : (bs : List ℤ) (c i : ℕ) → coordinate (map (λ _. pos 0) bs) c i ≡ pos 0
 unfolding coordinate
@@ -81,8 +97,12 @@ module _ {n : ℕ} {ts ls : List ℕ} {s : List ℤ} (P : Peeled n ts ls s) (ws 
   abbrev T : ℕ
   T = length ts / 3
 
-  abbrev t : Tables
-  t = tablesOf s
+  abbrev t : Peeling
+  t = peeling s
+
+  -- no fan has more darts than scratch has words
+  abbrev fuel : ℕ
+  fuel = length s
 
   abbrev sph : Sphere n (length ts / 3) (org ts) (opp ts)
   sph = P .labelled .sphere
@@ -105,8 +125,13 @@ module _ {n : ℕ} {ts ls : List ℕ} {s : List ℤ} (P : Peeled n ts ls s) (ws 
   D : Drawing T (org ts) (opp ts) (label ls) (outer ts) (weight ws) F B0 B1
   D = forward-drawing ts ls sph size R ws
 
-  words : (d : ℕ) → d < 3 * T → oppositeIn (t .op) d ≡ opp ts d
-  words d h = oppositeIn-is (P .labelled) d (omega (arith, size))
+  tabled : Tabled n fuel ts t
+  tabled = record {
+    size = P .labelled .size;
+    turns = λ d h. P .labelled .turns d (omega (arith, size));
+    origins = λ d h. P .labelled .origins d (omega (arith, size));
+    enough = omega (arith, P .labelled .size, P .labelled .room);
+  }
 
   tu : Removals T (org ts) (opp ts) (label ls) (outer ts) (R .trace)
   tu = all-removals sph R (named ts) (omega (arith, stored-length n t (R .trace) 0 (P .stored)))
@@ -152,40 +177,40 @@ module _ {n : ℕ} {ts ls : List ℕ} {s : List ℤ} (P : Peeled n ts ls s) (ws 
   long-zeros : length zeros ≡ 3 * n
   long-zeros = length-map bs (λ (_ : ℤ). pos 0) ∙ long
 
-  pub rooms : (k : ℕ) → k < n - 2 → Room ts t ws (t .mark (2 * k + 1)) (accumulateAll ts t ws k zeros)
-  rooms = Accumulate.rooms ts ls sph size R t words ws zeros long-zeros D small (weight-small ws low) (P .stored) tu (zeros-at bs 1)
+  pub rooms : (k : ℕ) → k < n - 2 → Room fuel t ws (t .order k) (accumulateAll fuel t ws k zeros)
+  rooms = Accumulate.rooms ts ls sph R fuel t tabled ws zeros long-zeros D small (weight-small ws low) (P .stored) tu (zeros-at bs 1)
 
   abbrev low-end : List ℤ
-  low-end = accumulateAll ts t ws (n - 2) zeros
+  low-end = accumulateAll fuel t ws (n - 2) zeros
 
   settled : Accumulate.Settled T (org ts) (opp ts) F low-end (R .trace)
-  settled = Accumulate.settled ts ls sph size R t words ws zeros long-zeros D small (weight-small ws low) (P .stored) tu (zeros-at bs 1)
+  settled = Accumulate.settled ts ls sph R fuel t tabled ws zeros long-zeros D small (weight-small ws low) (P .stored) tu (zeros-at bs 1)
 
   long-low : length low-end ≡ 3 * n
-  long-low = length-accumulateAll ts t ws (n - 2) zeros ∙ long-zeros
+  long-low = length-accumulateAll fuel t ws (n - 2) zeros ∙ long-zeros
 
   -- ---- up
 
   abbrev base : List ℤ
-  base = withCorners ts low-end
+  base = withCorners (org ts 0) (org ts 2) low-end
 
   long-base : length base ≡ 3 * n
-  long-base = length-withCorners ts low-end ∙ long-low
+  long-base = length-withCorners (org ts 0) (org ts 2) low-end ∙ long-low
 
-  rims : Propagate.Stands ts ls sph R t D base (org ts 0) × Propagate.Stands ts ls sph R t D base (org ts 2)
-  rims = Propagate.corners-stand ts ls sph R t D low-end long-low (settled-last T (org ts) (opp ts) F low-end (R .trace) settled)
+  rims : Propagate.Stands ts ls sph R t (tabled .origins) D base (org ts 0) × Propagate.Stands ts ls sph R t (tabled .origins) D base (org ts 2)
+  rims = Propagate.corners-stand ts ls sph R t (tabled .origins) D low-end long-low (settled-last T (org ts) (opp ts) F low-end (R .trace) settled)
 
   settled-base : Accumulate.Settled T (org ts) (opp ts) F base (R .trace)
-  settled-base = Propagate.settled-withCorners ts ls sph R t D low-end long-low (R .trace) tu settled
+  settled-base = Propagate.settled-withCorners ts ls sph R t (tabled .origins) D low-end long-low (R .trace) tu settled
 
-  pub ceilings : (k : ℕ) → k < n - 2 → Ceiling ts t (t .mark (2 * (n - 2 - suc k) + 1)) (propagateAll ts t (n - 2) k base)
-  ceilings = Propagate.ceilings ts ls sph R t D base long-base (rims .0) (rims .1) small near (P .stored) tu settled-base
+  pub ceilings : (k : ℕ) → k < n - 2 → Ceiling t (t .order (n - 2 - suc k)) (propagateAll t (n - 2) k base)
+  ceilings = Propagate.ceilings ts ls sph R t (tabled .origins) D base long-base (rims .0) (rims .1) small near (P .stored) tu settled-base
 
   abbrev high : List ℤ
-  high = propagateAll ts t (n - 2) (n - 2) base
+  high = propagateAll t (n - 2) (n - 2) base
 
   stand : (i : ℕ) → i < n → (coordinate high 0 i ≡ B0 i) × (coordinate high 1 i ≡ B1 i)
-  stand = Propagate.all-stand ts ls sph R t D base long-base (rims .0) (rims .1) small near (P .stored) tu settled-base
+  stand = Propagate.all-stand ts ls sph R t (tabled .origins) D base long-base (rims .0) (rims .1) small near (P .stored) tu settled-base
 
   -- ---- b2
 
@@ -198,15 +223,15 @@ module _ {n : ℕ} {ts ls : List ℕ} {s : List ℤ} (P : Peeled n ts ls s) (ws 
   high-small (suc (suc c)) i l h = absurd (omega arith)
 
   long-high : length high ≡ 3 * n
-  long-high = length-propagateAll ts t (n - 2) (n - 2) base ∙ long-base
+  long-high = length-propagateAll t (n - 2) (n - 2) base ∙ long-base
 
-  pub thirds-pre : ThirdsPre n ts high
+  pub thirds-pre : ThirdsPre n (org ts 0) high
   thirds-pre = record { few = P .labelled .most; first = v0-in; long = long-high; small = high-small }
 
   N-is : coordinate high 0 (org ts 0) ≡ total ws
   N-is =
       let e : length ts / 3 - 1 ≡ weightsLength n = omega (arith, P .labelled .size) in
-      stand (org ts 0) v0-in .0 ∙ Propagate.N-is ts ls sph R t D .1 ∙ through-last ts ls sph size R ws ∙ ap (λ (k : ℕ). sum (weight ws) 1 k) e
+      stand (org ts 0) v0-in .0 ∙ Propagate.N-is ts ls sph R t (tabled .origins) D .1 ∙ through-last ts ls sph size R ws ∙ ap (λ (k : ℕ). sum (weight ws) 1 k) e
       ∙ sym (total-sum n ts ls (P .labelled .size) U ws len)
 
   -- ---- all of it
@@ -232,25 +257,38 @@ module _ {n : ℕ} {ts ls : List ℕ} {s : List ℤ} (P : Peeled n ts ls s) (ws 
 
   -- ---- what the loops ask, as they ask it
 
-  marks-at : {C : List ℕ} (tr : Trace T (org ts) (opp ts) C) (j : ℕ) → Stored n T (org ts) (opp ts) t j tr →
+  pub readable : Readable n (length s) t
+  readable = record {
+    most = P .labelled .most;
+    least = sph .least;
+    room = P .labelled .room;
+    origins = λ d h. rw (P .labelled .origins d (omega (arith, P .labelled .size))) (sph .vertex d (omega (arith, P .labelled .size)));
+  }
+
+  -- v0 and v1 as scratch has them
+  pub v0-is : t .origin 0 ≡ org ts 0
+  v0-is = tabled .origins 0 (omega (arith, outer-below sph R (named ts)))
+
+  pub v1-is : t .origin 2 ≡ org ts 2
+  v1-is = tabled .origins 2 (outer-below sph R (named ts))
+
+  around-at : {C : List ℕ} (tr : Trace T (org ts) (opp ts) C) (j : ℕ) → Stored n T (org ts) (opp ts) t j tr →
       Removals T (org ts) (opp ts) (label ls) (outer ts) tr →
-      (k : ℕ) → j ≤ k → k < n - 2 → t .mark (2 * k + 1) < n
-  marks-at done j st u k l h = absurd (omega (arith, st))
-  marks-at (step e e′ gs b o f s tr) j st u k l h =
+      (k : ℕ) → j ≤ k → k < n - 2 → Around n fuel t (t .order k)
+  around-at done j st u k l h = absurd (omega (arith, st))
+  around-at (step e e′ gs b o f s tr) j st u k l h =
       elim (ℕ-discrete k j) [
-        | yes p ↦ rw (p, st .0) (sph .vertex e (u .0 .below))
-        | no p ↦ marks-at tr (suc j) (st .3) (u .1) k (omega (arith, p)) h
+        | yes p ↦
+            rw (p, st .0) (record {
+              vertex = sph .vertex e (u .0 .below);
+              left = rw (st .1) (omega (arith, u .0 .below, P .labelled .size));
+              right = rw (st .2) (omega (arith, u .0 .below′, P .labelled .size));
+              gs = gs;
+              fan = rw (st .1, st .2) (fan-tabled ts ls sph R fuel t tabled ws (u .0) (st .1) (st .2) zeros long-zeros);
+              short = fan-fits ts ls sph R fuel t tabled ws (u .0) (st .1) (st .2) zeros long-zeros;
+            })
+        | no p ↦ around-at tr (suc j) (st .3) (u .1) k (omega (arith, p)) h
       ]
 
-  marks : (k : ℕ) → k < n - 2 → t .mark (2 * k + 1) < n
-  marks k h = marks-at (R .trace) 0 (P .stored) tu k (omega arith) h
-
-  pub few : n < 65536
-  few = omega (arith, P .labelled .most)
-
-  pub accumulateAll-asks : (k : ℕ) → k < n - 2 → (t .mark (2 * k + 1) < n) × Room ts t ws (t .mark (2 * k + 1)) (accumulateAll ts t ws k zeros)
-  accumulateAll-asks k h = (marks k h, rooms k h)
-
-  pub propagateAll-asks : (k : ℕ) → k < n - 2 →
-      (t .mark (2 * (n - 2 - suc k) + 1) < n) × Ceiling ts t (t .mark (2 * (n - 2 - suc k) + 1)) (propagateAll ts t (n - 2) k base)
-  propagateAll-asks k h = (marks (n - 2 - suc k) (omega arith), ceilings k h)
+  pub around : (k : ℕ) → k < n - 2 → Around n fuel t (t .order k)
+  around k h = around-at (R .trace) 0 (P .stored) tu k (omega arith) h

@@ -7,14 +7,13 @@ use native.Mathlib.Decide.{ℕ-discrete}
 use lib.ListN.{length, set, length-set}
 use lib.Seq.{getD-set-same, getD-set-other}
 use lib.IntN.{ℤ, pos, natAbs, _-ℤ_}
-use Rattle.definitions.specs.Mesh.{org}
 use Rattle.definitions.specs.Backward.{coordinate}
 use Rattle.definitions.specs.Repair.{limit}
 
 -- three coordinates to each of n vertices, of which the first two are within the limit
-pub record ThirdsPre (n : ℕ) (ts : List ℕ) (bs : List ℤ) : Type 0 where
+pub record ThirdsPre (n v0 : ℕ) (bs : List ℤ) : Type 0 where
   pub few : n ≤ 4096
-  pub first : org ts 0 < n
+  pub first : v0 < n
   pub long : length bs ≡ 3 * n
   pub small : (c i : ℕ) → c < 2 → i < n → natAbs (coordinate bs c i) ≤ limit
 
@@ -44,6 +43,6 @@ thirds-next v N bs bs′ bs″ C room e =
     })
 
 -- what the loop reads is within the limit
-pub thirds-small : {n : ℕ} {ts : List ℕ} {v : ℕ} {N : ℤ} {bs bs′ : List ℤ} → ThirdsPre n ts bs → ThirdsWritten v N bs bs′ → (c i : ℕ) →
+pub thirds-small : {n v0 v : ℕ} {N : ℤ} {bs bs′ : List ℤ} → ThirdsPre n v0 bs → ThirdsWritten v N bs bs′ → (c i : ℕ) →
     c < 2 → i < n → natAbs (coordinate bs′ c i) ≤ limit
 thirds-small P C c i h l = rw (C .same c i h) (P .small c i h l)

@@ -1,6 +1,6 @@
 -- Rows 9 to 12 as the code meets them: entry by entry, vertex by vertex. Assumes nothing.
 use Prim.Native.Nat.{ℕ, _+_, _*_, _≤_, _<_}
-use mathlib.Core.Path.{_≡_, refl, sym, _∙_}
+use mathlib.Core.Path.{_≡_, refl, sym, ap, _∙_}
 use mathlib.Core.Bool.{Bool, true, false, not, _&&_}
 use mathlib.Core.List.{List}
 use native.Mathlib.Omega.{arith}
@@ -15,12 +15,14 @@ use mir.Val.{toZ, ofZ}
 use borrow.Author.Count.{below-none, below-more}
 use borrow.Author.Tests.{lt-ltb, le-ltb, ltb-false, not-false}
 use Rattle.definitions.specs.Lists.{totalAbs}
-use Rattle.definitions.specs.Mesh.{org}
+use Rattle.definitions.specs.Mesh.{coordinatesLength, org}
 use Rattle.definitions.specs.Labels.{outer}
 use Rattle.definitions.specs.Backward.{coordinate}
 use Rattle.definitions.specs.Repair.{limit}
 use Rattle.definitions.specs.Refusals.{eqZ, hasCoordinates, row9, row10, row11, row12}
 use Rattle.laws.specs.Lists.{in-getD, getD-in, true-any, any-false, false-any, in-upto, none-upto}
+use Rattle.labels_tables.specs.Peeling.{peeling}
+use Rattle.labels_tables.specs.LabelledTables.{Labelled, whole}
 use Rattle.int64.specs.Whole.{held-size}
 
 -- ---- row 9: the absolute values of the first i weights have been summed
@@ -120,56 +122,81 @@ row11-is : (ts : List ℕ) (bs : List ℤ) → let N = coordinate bs 0 (org ts 0
 unfolding row11 outer
 row11-is ts bs = refl
 
--- the outer vertices as the code finds them, b0 of v0, and the results a, b, d of their tests
-module _ (ts : List ℕ) (bs : List ℤ) (v0 : ℕ) (N : ℤ) (a : Bool) (is0 : v0 ≡ org ts 0) (e : a ≡ hasCoordinates bs v0 N (pos 0) (pos 0))
+-- ---- the outer vertices as scratch has them
+
+module _ {n : ℕ} {ts ls : List ℕ} {s : List ℤ} (l : Labelled n ts ls s) where
+  corner-below : (d : ℕ) → d < 3 → d < length ts
+  corner-below d h = omega (arith, l .size, l .sphere .least)
+
+  pub corner-is : (d : ℕ) → d < 3 → peeling s .origin d ≡ org ts d
+  corner-is d h = l .origins d (corner-below d h)
+
+  -- their coordinates are there
+  pub corner-in : (d v c : ℕ) (bs : List ℤ) → d < 3 → v ≡ peeling s .origin d → length bs ≡ coordinatesLength n → c < 3 → 3 * v + c < length bs
+  corner-in d v c bs h e long q =
+      let i : org ts d < n = l .sphere .vertex d (omega (arith, corner-below d h, whole l)) in
+      omega (arith, e, corner-is d h, i, long)
+
+-- b0 of v0, and the results a, b, d of the vertices' tests
+module _ (bs s : List ℤ) (v0 : ℕ) (N : ℤ) (a : Bool) (is0 : v0 ≡ peeling s .origin 0) (e : a ≡ hasCoordinates bs v0 N (pos 0) (pos 0))
     (isN : N ≡ coordinate bs 0 v0) where
-  pub corner-0 : a ≡ false → true ≡ row11 ts bs
-  corner-0 h = rw (row11-is ts bs, ← is0, ← isN, ← e, h)
+  pub corner-0 : a ≡ false → (n : ℕ) (ts ls : List ℕ) → Labelled n ts ls s → true ≡ row11 ts bs
+  corner-0 h n ts ls l = let z = corner-is l 0 (omega arith) in rw (row11-is ts bs, ← z, ← is0, ← isN, ← e, h)
 
-  module _ (h : a ≡ true) (v1 : ℕ) (b : Bool) (is1 : v1 ≡ org ts 2) (f : b ≡ hasCoordinates bs v1 (pos 0) N (pos 0)) where
-    pub corner-1 : b ≡ false → true ≡ row11 ts bs
-    corner-1 k = rw (row11-is ts bs, ← is0, ← isN, ← e, ← is1, ← f, h, k)
+  module _ (h : a ≡ true) (v1 : ℕ) (b : Bool) (is1 : v1 ≡ peeling s .origin 2) (f : b ≡ hasCoordinates bs v1 (pos 0) N (pos 0)) where
+    pub corner-1 : b ≡ false → (n : ℕ) (ts ls : List ℕ) → Labelled n ts ls s → true ≡ row11 ts bs
+    corner-1 k n ts ls l =
+        let z = corner-is l 0 (omega arith) in
+        let y = corner-is l 2 (omega arith) in
+        rw (row11-is ts bs, ← z, ← y, ← is0, ← isN, ← e, ← is1, ← f, h, k)
 
-    pub corner-2 : b ≡ true → (v2 : ℕ) (d : Bool) → v2 ≡ org ts 1 → d ≡ hasCoordinates bs v2 (pos 0) (pos 0) N → not d ≡ row11 ts bs
-    corner-2 k v2 d is2 g = rw (row11-is ts bs, ← is0, ← isN, ← e, ← is1, ← f, ← is2, ← g, h, k)
+    pub corner-2 : b ≡ true → (v2 : ℕ) (d : Bool) → v2 ≡ peeling s .origin 1 → d ≡ hasCoordinates bs v2 (pos 0) (pos 0) N →
+        (n : ℕ) (ts ls : List ℕ) → Labelled n ts ls s → not d ≡ row11 ts bs
+    corner-2 k v2 d is2 g n ts ls l =
+        let z = corner-is l 0 (omega arith) in
+        let y = corner-is l 2 (omega arith) in
+        let x = corner-is l 1 (omega arith) in
+        rw (row11-is ts bs, ← z, ← y, ← x, ← is0, ← isN, ← e, ← is1, ← f, ← is2, ← g, h, k)
 
 -- ---- row 12
 
--- the coordinates of vertex i sum to b0 of vertex v
-unfoldable pub balanced : List ℤ → ℕ → ℕ → Bool
+-- the coordinates of vertex i sum to N
+unfoldable pub balanced : List ℤ → ℤ → ℕ → Bool
 unfolding eqZ coordinate
-balanced bs v i = eqZ (coordinate bs 0 i +ℤ coordinate bs 1 i +ℤ coordinate bs 2 i) (coordinate bs 0 v)
+balanced bs N i = eqZ (coordinate bs 0 i +ℤ coordinate bs 1 i +ℤ coordinate bs 2 i) N
 
--- the first i vertices have the sum that is wanted, b0 of vertex v, which is v0
-pub record Balanced (n : ℕ) (ts : List ℕ) (bs : List ℤ) (v i : ℕ) : Type 0 where
-  pub corner : v ≡ org ts 0
+-- the first i vertices have the sum that is wanted
+pub record Balanced (n : ℕ) (bs : List ℤ) (N : ℤ) (i : ℕ) : Type 0 where
   pub low : i ≤ n
-  pub passed : (k : ℕ) → k < i → balanced bs v k ≡ true
+  pub passed : (k : ℕ) → k < i → balanced bs N k ≡ true
 
-pub balanced-none : (n : ℕ) (ts : List ℕ) (bs : List ℤ) (v : ℕ) → v ≡ org ts 0 → Balanced n ts bs v 0
-balanced-none n ts bs v e = record { corner = e; low = omega arith; passed = below-none (λ k. balanced bs v k ≡ true) }
+pub balanced-none : (n : ℕ) (bs : List ℤ) (N : ℤ) → Balanced n bs N 0
+balanced-none n bs N = record { low = omega arith; passed = below-none (λ k. balanced bs N k ≡ true) }
 
-module _ (n : ℕ) (ts : List ℕ) (bs : List ℤ) (v i : ℕ) (b : Balanced n ts bs v i) where
+module _ (n : ℕ) (bs : List ℤ) (N : ℤ) (i : ℕ) (b : Balanced n bs N i) where
   -- r is the result of the code's test of the next vertex
-  pub balanced-more : (r : Bool) → i < n → r ≡ not (balanced bs v i) → r ≡ false → Balanced n ts bs v (i + 1)
+  pub balanced-more : (r : Bool) → i < n → r ≡ not (balanced bs N i) → r ≡ false → Balanced n bs N (i + 1)
   balanced-more r h e f = record {
-    corner = b .corner;
     low = omega arith;
-    passed = below-more (λ k. balanced bs v k ≡ true) i (b .passed) (not-false (balanced bs v i) (cc));
+    passed = below-more (λ k. balanced bs N k ≡ true) i (b .passed) (not-false (balanced bs N i) (cc));
   }
 
-  pub balanced-fails : (r : Bool) → i < n → r ≡ not (balanced bs v i) → r ≡ true → true ≡ row12 n ts bs
-  unfolding row12 balanced outer
-  balanced-fails r h e f =
-      sym (true-any (λ i. not (balanced bs (outer ts 0) i)) (in-upto n i h) (rw (b .corner) at (sym e ∙ f)))
+  -- what is wanted is b0 of v0, as scratch s has it
+  module _ (s : List ℤ) (t : N ≡ coordinate bs 0 (peeling s .origin 0)) where
+    pub balanced-fails : (r : Bool) → i < n → r ≡ not (balanced bs N i) → r ≡ true → (ts ls : List ℕ) → Labelled n ts ls s → true ≡ row12 n ts bs
+    unfolding row12 balanced outer
+    balanced-fails r h e f ts ls l =
+        let q : N ≡ coordinate bs 0 (org ts 0) = t ∙ ap (coordinate bs 0) (corner-is l 0 (omega arith)) in
+        sym (true-any (λ i. not (balanced bs (coordinate bs 0 (org ts 0)) i)) (in-upto n i h) (rw q at (sym e ∙ f)))
 
-  pub balanced-all : n ≤ i → false ≡ row12 n ts bs
-  unfolding row12 balanced outer
-  balanced-all h = sym (none-upto (λ i. not (balanced bs (outer ts 0) i)) n (λ k l. rw (rw (b .corner) at (b .passed k (omega (arith, l))))))
+    pub balanced-all : n ≤ i → (ts ls : List ℕ) → Labelled n ts ls s → false ≡ row12 n ts bs
+    unfolding row12 balanced outer
+    balanced-all h ts ls l =
+        let q : N ≡ coordinate bs 0 (org ts 0) = t ∙ ap (coordinate bs 0) (corner-is l 0 (omega arith)) in
+        sym (none-upto (λ i. not (balanced bs (coordinate bs 0 (org ts 0)) i)) n (λ k l. rw (rw q at (b .passed k (omega (arith, l))))))
 
 -- the code's test of one vertex, on numbers that are those of the definition
-pub unbalanced-is : (bs : List ℤ) (v i : ℕ) (s t : ℤ) (r : Bool) → s ≡ coordinate bs 0 i +ℤ coordinate bs 1 i +ℤ coordinate bs 2 i →
-    t ≡ coordinate bs 0 v →
-    r ≡ eqZ s t → not r ≡ not (balanced bs v i)
+pub unbalanced-is : (bs : List ℤ) (i : ℕ) (s t N : ℤ) (r : Bool) → s ≡ coordinate bs 0 i +ℤ coordinate bs 1 i +ℤ coordinate bs 2 i → t ≡ N →
+    r ≡ eqZ s t → not r ≡ not (balanced bs N i)
 unfolding balanced
-unbalanced-is bs v i s t r e f g = rw (g, e, f)
+unbalanced-is bs i s t N r e f g = rw (g, e, f)

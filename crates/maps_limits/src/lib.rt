@@ -1,10 +1,16 @@
 // What the calls on weights and coordinates ask of them beyond the mesh: rows 9 to 12 of the table of refusals.
 ghost use mathlib.Core.Path.{_≡_};
 ghost use mathlib.Core.Bool.{false, not};
-ghost use Prim.Native.Nat.{_<_};
-ghost use lib.IntN.{_+ℤ_};
+ghost use mathlib.Core.List.{List};
+ghost use Prim.Native.Nat.{ℕ, _+_, _*_, _≤_, _<_};
+ghost use lib.ListN.{length};
+ghost use lib.IntN.{natAbs, _+ℤ_};
+ghost use Rattle.definitions.specs.Mesh.{coordinatesLength};
 ghost use Rattle.definitions.specs.Backward.{coordinate};
-ghost use Rattle.definitions.specs.Refusals.{hasCoordinates, row9, row10, row11, row12};
+ghost use Rattle.definitions.specs.Repair.{limit};
+ghost use Rattle.definitions.specs.Refusals.{eqZ, hasCoordinates, row9, row10, row11, row12};
+ghost use Rattle.labels_tables.specs.Peeling.{peeling};
+ghost use Rattle.labels_tables.specs.LabelledTables.{Labelled};
 ghost use Rattle.maps_limits.specs.Limits.{balanced};
 
 // L, the limit on the sum of the weights' absolute values and on each coordinate
@@ -17,7 +23,7 @@ pub fn past_limit(weights: &[i64]) -> bool
     let mut sum: usize = 0;
     let mut i = 0;
     while i < weights.len() {
-        sum += int64::size_at(weights, i);
+        sum += int64::magnitude(int64::get(weights, i));
         if sum > LIMIT {
             return true;
         }
@@ -32,7 +38,7 @@ pub fn out_of_range(coordinates: &[i64]) -> bool
 {
     let mut i = 0;
     while i < coordinates.len() {
-        let size = int64::size_at(coordinates, i);
+        let size = int64::magnitude(int64::get(coordinates, i));
         if size > LIMIT {
             return true;
         }
@@ -41,14 +47,30 @@ pub fn out_of_range(coordinates: &[i64]) -> bool
     false
 }
 
+// coordinate c of vertex i, which there is
+pub fn coordinate_at(coordinates: &[i64], c: usize, i: usize) -> i64
+    requires { ⌜ 3 * i + c < length (now coordinates) ⌝ }
+    ensures { λ r. ⌜ r ≡ coordinate (now (coordinates .entry)) c i ⌝ }
+{
+    int64::get(coordinates, 3 * i + c)
+}
+
+// coordinate c of vertex i is x
+fn coordinate_is(coordinates: &[i64], c: usize, i: usize, x: i64) -> bool
+    requires { ⌜ 3 * i + c < length (now coordinates) ⌝ }
+    ensures { λ r. ⌜ r ≡ eqZ (coordinate (now (coordinates .entry)) c i) x ⌝ }
+{
+    int64::equal(coordinate_at(coordinates, c, i), x)
+}
+
 // vertex i is at (x, y, z)
 fn has_coordinates(coordinates: &[i64], i: usize, x: i64, y: i64, z: i64) -> bool
-    requires { ⌜ i < 65536 ⌝ }
+    requires { ⌜ 3 * i + 2 < length (now coordinates) ⌝ }
     ensures { λ r. ⌜ r ≡ hasCoordinates (now (coordinates .entry)) i x y z ⌝ }
 {
-    if int64::coordinate_is(coordinates, 0, i, x) {
-        if int64::coordinate_is(coordinates, 1, i, y) {
-            int64::coordinate_is(coordinates, 2, i, z)
+    if coordinate_is(coordinates, 0, i, x) {
+        if coordinate_is(coordinates, 1, i, y) {
+            coordinate_is(coordinates, 2, i, z)
         } else {
             false
         }
@@ -58,13 +80,14 @@ fn has_coordinates(coordinates: &[i64], i: usize, x: i64, y: i64, z: i64) -> boo
 }
 
 // 11: an outer vertex off its corner
-pub fn off_corner(triangles: &[u16], coordinates: &[i64]) -> bool
-    ensures { λ r. ⌜ r ≡ row11 (now (triangles .entry)) (now (coordinates .entry)) ⌝ }
+pub fn off_corner(coordinates: &[i64], scratch: &[i64]) -> bool
+    requires { ⌜ ((n : ℕ) × (ts : List ℕ) × (ls : List ℕ) × Labelled n ts ls (now scratch) × (length (now coordinates) ≡ coordinatesLength n)) ⌝ }
+    ensures { λ r. ⌜ ((n : ℕ) (ts ls : List ℕ) → Labelled n ts ls (now (scratch .entry)) → r ≡ row11 ts (now (coordinates .entry))) ⌝ }
 {
-    let v0 = scratch_tables::origin(triangles, 0);
-    let v1 = scratch_tables::origin(triangles, 2);
-    let v2 = scratch_tables::origin(triangles, 1);
-    let total = int64::coordinate_of(coordinates, 0, v0);
+    let v0 = labels_tables::origin(scratch, 0);
+    let v1 = labels_tables::origin(scratch, 2);
+    let v2 = labels_tables::origin(scratch, 1);
+    let total = coordinate_at(coordinates, 0, v0);
     if has_coordinates(coordinates, v0, total, 0, 0) {
         if has_coordinates(coordinates, v1, 0, total, 0) {
             !has_coordinates(coordinates, v2, 0, 0, total)
@@ -78,34 +101,43 @@ pub fn off_corner(triangles: &[u16], coordinates: &[i64]) -> bool
 
 // the sum of a vertex's coordinates
 fn sum_of(coordinates: &[i64], i: usize) -> i64
-    requires { ⌜ (i < 65536) × (row10 (now coordinates) ≡ false) ⌝ }
+    requires { ⌜ (3 * i + 2 < length (now coordinates)) × (row10 (now coordinates) ≡ false) ⌝ }
     ensures { λ r. ⌜ r ≡ coordinate (now (coordinates .entry)) 0 i +ℤ coordinate (now (coordinates .entry)) 1 i +ℤ coordinate (now (coordinates .entry)) 2 i ⌝ }
 {
-    let x = int64::coordinate_of(coordinates, 0, i);
-    let y = int64::coordinate_of(coordinates, 1, i);
-    let z = int64::coordinate_of(coordinates, 2, i);
+    let x = coordinate_at(coordinates, 0, i);
+    let y = coordinate_at(coordinates, 1, i);
+    let z = coordinate_at(coordinates, 2, i);
     int64::plus(int64::plus(x, y), z)
 }
 
-// the coordinates of vertex i do not sum to b0 of vertex v
-fn unbalanced(coordinates: &[i64], v: usize, i: usize) -> bool
-    requires { ⌜ (v < 65536) × (i < 65536) × (row10 (now coordinates) ≡ false) ⌝ }
-    ensures { λ r. ⌜ r ≡ not (balanced (now (coordinates .entry)) v i) ⌝ }
+// the coordinates of vertex i do not sum to `total`
+fn unbalanced(coordinates: &[i64], total: i64, i: usize) -> bool
+    requires { ⌜ (3 * i + 2 < length (now coordinates)) × (row10 (now coordinates) ≡ false) ⌝ }
+    ensures { λ r. ⌜ r ≡ not (balanced (now (coordinates .entry)) total i) ⌝ }
 {
-    let sum = sum_of(coordinates, i);
-    let total = int64::coordinate_of(coordinates, 0, v);
-    !int64::equal(sum, total)
+    !int64::equal(sum_of(coordinates, i), total)
+}
+
+// b0 of v0, which is N where row 11 finds nothing
+pub fn total_of(coordinates: &[i64], scratch: &[i64]) -> i64
+    requires { ⌜ ((n : ℕ) × (ts : List ℕ) × (ls : List ℕ) × Labelled n ts ls (now scratch) × (length (now coordinates) ≡ coordinatesLength n))
+        × (row10 (now coordinates) ≡ false) ⌝ }
+    ensures is { λ r. ⌜ r ≡ coordinate (now (coordinates .entry)) 0 (peeling (now (scratch .entry)) .origin 0) ⌝ }
+    ensures small { λ r. ⌜ natAbs r ≤ limit ⌝ }
+{
+    coordinate_at(coordinates, 0, labels_tables::origin(scratch, 0))
 }
 
 // 12: a vertex's sum is not b0 of v0
-pub fn off_sum(n: usize, triangles: &[u16], coordinates: &[i64]) -> bool
-    requires { ⌜ (n < 65536) × (row10 (now coordinates) ≡ false) ⌝ }
-    ensures { λ r. ⌜ r ≡ row12 n (now (triangles .entry)) (now (coordinates .entry)) ⌝ }
+pub fn off_sum(n: usize, coordinates: &[i64], scratch: &[i64]) -> bool
+    requires { ⌜ ((ts : List ℕ) × (ls : List ℕ) × Labelled n ts ls (now scratch)) × (length (now coordinates) ≡ coordinatesLength n)
+        × (row10 (now coordinates) ≡ false) ⌝ }
+    ensures { λ r. ⌜ ((ts ls : List ℕ) → Labelled n ts ls (now (scratch .entry)) → r ≡ row12 n ts (now (coordinates .entry))) ⌝ }
 {
-    let v0 = scratch_tables::origin(triangles, 0);
+    let total = total_of(coordinates, scratch);
     let mut i = 0;
     while i < n {
-        if unbalanced(coordinates, v0, i) {
+        if unbalanced(coordinates, total, i) {
             return true;
         }
         i += 1;

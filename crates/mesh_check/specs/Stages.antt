@@ -8,25 +8,27 @@ use native.Mathlib.Omega.{arith}
 use native.Mathlib.Decide.{decLt}
 use lib.ListN.{length, List·getD-eq-default}
 use lib.IntN.{ℤ}
-use Rattle.definitions.specs.Mesh.{trianglesLength, scratchLength, org, opp, row3, row4, row7or25, row8}
+use Rattle.definitions.specs.Mesh.{trianglesLength, scratchLength, prev, org, opp, row3, row4, row7or25, row8}
 use Rattle.definitions.specs.Answers.{numbered, firstRefusal}
 use Rattle.definitions.specs.Refusals.{Slice, slice, mostVertices, meshRows, Accepted as AcceptedMesh}
-use Rattle.theory_sphere.specs.Rows.{row3-means}
+use Rattle.theory_sphere.specs.Darts.{prev-below}
+use Rattle.theory_sphere.specs.Rows.{row3-means, outgoing-in}
 use Rattle.theory_sphere.specs.Sides.{Sides}
 use Rattle.theory_sphere.specs.Sphere.{Sphere}
 use Rattle.theory_sphere.specs.Accept.{row1-range, range-row1, accepted-sphere}
 use Rattle.lent_slices.specs.Calls.{Fits}
 use Rattle.theory_sphere.specs.FirstRefusal.{row2-cons, clean-refusal, mesh-3, mesh-4, mesh-5, mesh-6, mesh-8}
 use Rattle.theory_sphere.specs.VertexRefusals.{Passed, in-order, from-vertex}
-use Rattle.scratch_tables.specs.Tables.{Tables, tablesOf, blank, withOp, withMark}
-use Rattle.mesh_model.specs.IncidenceLists.{fill, fill-buckets, fill-heads, fill-mark, Bucketed, Headed, blank-counts, blank-heads, Rooted, bucketed-rooted}
-use Rattle.mesh_model.specs.DuplicateSides.{Before}
-use Rattle.mesh_model.specs.Opposites.{Told, twice, lacking, paired, joinAll-told}
+use Rattle.scratch_tables.specs.Tables.{Tables, VerticesCleared, tablesOf, column, vertexIn}
+use Rattle.mesh_tables.specs.Incidence.{Incidence, incidence}
+use Rattle.mesh_model.specs.IncidenceLists.{fill, zeros-empty}
 use Rattle.mesh_model.specs.RingWalk.{firstBroken, firstBroken-is}
-use Rattle.mesh_model.specs.FloodFill.{explore-is}
-use Rattle.mesh_sides.specs.Room.{Room, room, Ready, Filling}
-use Rattle.mesh_sides.specs.LoopInvariants.{AllMatched, joinedAll}
-use Rattle.mesh_connectivity.specs.FloodFillLoops.{Marks, Split}
+use Rattle.mesh_model.specs.FloodFill.{Pairs, explore-is}
+use Rattle.mesh_rings.specs.RingLoops.{AllRounding}
+use Rattle.mesh_sides.specs.Room.{Ready, Filling, filled-ready}
+use Rattle.mesh_sides.specs.LoopInvariants.{AllFilled, AllMatched}
+use Rattle.mesh_sides.specs.MatchedSides.{Matched, SidesMatched, found-5, found-6, found-none, found-rings}
+use Rattle.mesh_connectivity.specs.FloodFillLoops.{Sided, Split}
 use Rattle.mesh_answer.specs.Answer.{toRefusal, foundIn}
 use Rattle.mesh_answer.specs.declared.Refusal.{Refusal}
 use Rattle.mesh_answer.specs.declared.MeshAnswer.{MeshAnswer}
@@ -48,28 +50,25 @@ has-lent n ts scratch slices F =
     let l = row2-cons (length ts) (trianglesLength n) (slice (length scratch) (scratchLength n) ∷ slices) .0 (F .lengths) in
     record { least = b .0; most = b .1; triangles = l .0; room = omega (arith, row2-cons (length scratch) (scratchLength n) slices .0 (l .1) .0) }
 
--- the opposites, the number of darts of each vertex, and a dart of each
-pub record Opened (ts : List ℕ) (t : Tables) : Type 0 where
-  pub opposites : (d : ℕ) → d < length ts → t .op d ≡ opp ts d
-  pub rooted : Rooted ts t
-
--- rows 3 to 6 have found nothing
-pub record Paired (n : ℕ) (ts : List ℕ) (t : Tables) : Type 0 where
+-- rows 3 to 7 and 25 have found nothing
+pub record Paired (n : ℕ) (ts : List ℕ) (i : Incidence) : Type 0 where
   pub passed : Passed n ts
-  pub tables : Opened ts t
+  pub rings : row7or25 ts n ≡ none
+  pub tables : Matched ts i
 
--- no row of the mesh has found anything
-pub record Accepting (n : ℕ) (ts : List ℕ) (t : Tables) : Type 0 where
+-- no row of the mesh has found anything; each dart's turn and origin are there
+pub record Accepting (n : ℕ) (ts : List ℕ) (i : Incidence) : Type 0 where
   pub clean : firstRefusal (meshRows n ts) ≡ none
-  pub tables : Opened ts t
+  pub turns : (d : ℕ) → d < length ts → i .turn d ≡ opp ts (prev d)
+  pub origins : (d : ℕ) → d < length ts → i .origin d ≡ org ts d
 
--- what the answer says: of the rows 3 to 6, and of all rows
+-- what the answer says: of the rows 3 to 7 and 25, and of all rows
 abbrev pub SidesPaired : ℕ → List ℕ → List ℤ → MeshAnswer → Type 0
-SidesPaired n ts s Accepted = Paired n ts (tablesOf s)
+SidesPaired n ts s Accepted = Paired n ts (incidence s)
 SidesPaired n ts s (Refused why) = firstRefusal (meshRows n ts) ≡ some (toRefusal why)
 
 abbrev pub Examined : ℕ → List ℕ → List ℤ → MeshAnswer → Type 0
-Examined n ts s Accepted = Accepting n ts (tablesOf s)
+Examined n ts s Accepted = Accepting n ts (incidence s)
 Examined n ts s (Refused why) = firstRefusal (meshRows n ts) ≡ some (toRefusal why)
 
 -- ---- room
@@ -88,161 +87,143 @@ small n ts h e d =
       | no l ↦ let p : length ts ≤ d = omega arith in rw (List·getD-eq-default ts 0 p) (omega arith)
     ]
 
-pub has-room : (n : ℕ) (ts : List ℕ) (words : ℕ) → Lent n ts words → row3 ts n ≡ false → Room ts words
-has-room n ts words L e = let w = whole n ts L in room n (length ts / 3) words ts (small n ts (L .least) e) (w .0) (w .1) (L .room)
-
 pub can-fill : (n : ℕ) (ts : List ℕ) (s s₁ : List ℤ) (r : Bool) → Lent n ts (length s) → r ≡ row3 ts n → r ≡ false →
-    length s₁ ≡ length s →
-    tablesOf s₁ ≡ withOp (tablesOf s .op) blank → Filling ts s₁
+    length s₁ ≡ length s → VerticesCleared (tablesOf s) (tablesOf s₁) → Filling ts s₁
 can-fill n ts s s₁ r L e f l b =
+    let low : (d : ℕ) → org ts d < n = small n ts (L .least) (sym e ∙ f) in
     record {
-      space = rw l (has-room n ts (length s) L (sym e ∙ f));
-      count = rw b (blank-counts ts (tablesOf s .op));
-      heads = rw b (blank-heads ts (tablesOf s .op));
+      whole = omega (arith, L .triangles);
       few = omega (arith, L .triangles, L .most);
+      darts = rw l (omega (arith, L .triangles, L .room));
+      vertex = λ d. rw l (omega (arith, low d, L .room));
+      empty = zeros-empty (tablesOf s₁) (λ v. ap (λ (g : ℕ → ℕ). g v) (b .vertices)) (λ w. ap (λ (g : ℕ → ℕ). g w) (b .marks));
     }
 
--- whole triangles, and few
-pub can-test : (n : ℕ) (ts : List ℕ) (words : ℕ) → Lent n ts words → (length ts % 3 ≡ 0) × (length ts < 2 ^ 62)
-can-test n ts words L = omega (arith, whole n ts L .0, L .triangles, L .most)
-
-pub has-marks : (n : ℕ) (ts : List ℕ) (words : ℕ) → Lent n ts words → {words′ : ℕ} → words′ ≡ words → Marks (length ts / 3) words′
-    × (0 < length ts / 3)
-has-marks n ts words L e =
-    let w = whole n ts L in
-    (record { at = λ t h. omega (arith, L .room, w .1); few = omega (arith, L .most, w .1) }, w .2)
-
--- rows 3 and 4, as the code finds them
+-- row 3, as the code finds it
 pub refuse3 : (n : ℕ) (ts : List ℕ) (r : Bool) → r ≡ row3 ts n → r ≡ true → firstRefusal (meshRows n ts) ≡ some (numbered 3)
 refuse3 n ts r e f = mesh-3 n ts (sym e ∙ f)
 
-pub refuse4 : (n : ℕ) (ts : List ℕ) (q r : Bool) → q ≡ row3 ts n → q ≡ false → r ≡ row4 ts → r ≡ true →
-    firstRefusal (meshRows n ts) ≡ some (numbered 4)
-refuse4 n ts q r d g e f = mesh-4 n ts (sym d ∙ g) (sym e ∙ f)
+-- ---- rows 5 to 7, and 25
 
--- ---- rows 5 and 6
-
--- the lists are there, and no mark yet
-record Listed (ts : List ℕ) (t : Tables) : Type 0 where
-  buckets : Bucketed ts t
-  heads : Headed ts t
-  marks : Before 0 (t .mark)
-
-module _ (n : ℕ) (ts : List ℕ) (words : ℕ) (L : Lent n ts words) (r3 : Bool) (e3 : r3 ≡ row3 ts n) (f3 : r3 ≡ false) (s s₁ s₂ : List ℤ)
-    (b : tablesOf s₁ ≡ withOp (tablesOf s .op) blank)
-    (f : tablesOf s₂ ≡ fill ts (length ts) (tablesOf s₁)) where
+-- scratch as lent, with the vertices cleared, with the lists filled, and with the sides matched
+module _ (n : ℕ) (ts : List ℕ) (s s₀ s₁ : List ℤ) (L : Lent n ts (length s)) (r3 : Bool) (e3 : r3 ≡ row3 ts n) (f3 : r3 ≡ false)
+    (l : length s₀ ≡ length s) (b : VerticesCleared (tablesOf s) (tablesOf s₀)) (r4 : Bool) (A : AllFilled ts s₀ s₁ r4) where
   none3 : row3 ts n ≡ false
   none3 = sym e3 ∙ f3
 
-  listed : Listed ts (tablesOf s₂)
-  unfolding withOp blank
-  listed =
-      let op = tablesOf s .op in
-      let v : tablesOf s₂ ≡ fill ts (length ts) (withOp op blank) = f ∙ ap (λ (t : Tables). fill ts (length ts) t) b in
-      rw v record {
-        buckets = fill-buckets ts op;
-        heads = fill-heads ts (length ts) (withOp op blank) (omega arith) (blank-heads ts op);
-        marks = λ x. rw (ap (λ (g : ℕ → ℕ). g x) (fill-mark ts (length ts) (withOp op blank))) (omega arith);
-      }
+  F : Filling ts s₀
+  F = can-fill n ts s s₀ r3 L e3 f3 l b
 
-  pub can-match : length s₂ ≡ words → Ready ts s₂ n
-  can-match l = record {
-    space = rw l (has-room n ts words L none3);
-    small = omega (arith, L .most);
-    heads = λ v. omega (arith, listed .heads v, L .triangles, L .most);
-  }
+  pub refuse4 : r4 ≡ true → firstRefusal (meshRows n ts) ≡ some (numbered 4)
+  refuse4 e = mesh-4 n ts none3 (sym (A .found) ∙ e)
 
-  told : Told ts (joinedAll ts n (tablesOf s₂))
-  told =
-      joinAll-told ts (length ts / 3) (whole n ts L .0) (omega (arith, L .triangles, L .most)) n (small n ts (L .least) none3) (tablesOf s₂)
-      (listed .buckets) (tablesOf s₂ .mark) (listed .marks)
+  pub can-match : r4 ≡ false → length s₁ ≡ length s₀ → Ready n s₁
+  can-match f4 m =
+      filled-ready n (length ts / 3) ts s₀ s₁ F (whole n ts L .0) (whole n ts L .2) (rw l (omega (arith, L .room))) (omega (arith, L .most)) m
+      (A .same f4)
 
-  -- what the number says of rows 5 and 6; where they find nothing the opposites are there
-  module _ (r4 : Bool) (e4 : r4 ≡ row4 ts) (f4 : r4 ≡ false) (s₃ : List ℤ) (r : ℕ) (M : AllMatched ts n s₂ s₃ r) where
+  module _ (f4 : r4 ≡ false) (s₂ : List ℤ) (r : ℕ) (M : AllMatched n s₁ s₂ r) where
     none4 : row4 ts ≡ false
-    none4 = sym e4 ∙ f4
+    none4 = sym (A .found) ∙ f4
+
+    f : incidence s₁ ≡ fill ts (length ts) (incidence s₀)
+    f = A .same f4
 
     pub refuse5 : r ≡ 5 → firstRefusal (meshRows n ts) ≡ some (numbered 5)
-    refuse5 e = go told
-      where
-        go : Told ts (joinedAll ts n (tablesOf s₂)) → firstRefusal (meshRows n ts) ≡ some (numbered 5)
-        go (twice q f5) = mesh-5 n ts none3 none4 f5
-        go (lacking q n5 f6) = absurd (omega (arith, M .row))
-        go (paired q n5 n6 o) = absurd (omega (arith, M .row))
+    refuse5 e =
+        mesh-5 n ts none3 none4
+        (found-5 n (length ts / 3) ts (whole n ts L .0) (whole n ts L .2) (small n ts (L .least) none3) s₀ s₁ s₂ F f r M e)
 
     pub refuse6 : r ≡ 6 → firstRefusal (meshRows n ts) ≡ some (numbered 6)
-    refuse6 e = go told
-      where
-        go : Told ts (joinedAll ts n (tablesOf s₂)) → firstRefusal (meshRows n ts) ≡ some (numbered 6)
-        go (twice q f5) = absurd (omega (arith, M .row))
-        go (lacking q n5 f6) = mesh-6 n ts none3 none4 n5 f6
-        go (paired q n5 n6 o) = absurd (omega (arith, M .row))
+    refuse6 e =
+        let g = found-6 n (length ts / 3) ts (whole n ts L .0) (whole n ts L .2) (small n ts (L .least) none3) s₀ s₁ s₂ F f r M e in
+        mesh-6 n ts none3 none4 (g .0) (g .1)
 
-    pub pairs : (r ≡ 5 → ⊥) → (r ≡ 6 → ⊥) → Paired n ts (tablesOf s₃)
-    unfolding withOp withMark
-    pairs n5 n6 = go told
-      where
-        go : Told ts (joinedAll ts n (tablesOf s₂)) → Paired n ts (tablesOf s₃)
-        go (twice q f5) = absurd (n5 (M .row ∙ q))
-        go (lacking q g5 f6) = absurd (n6 (M .row ∙ q))
-        go (paired q g5 g6 o) =
-            let R = bucketed-rooted ts (tablesOf s₂) (listed .buckets) in
-            record {
-              passed = record { none3 = none3; none4 = none4; none5 = g5; none6 = g6 };
-              tables = rw (M .same (M .row ∙ q)) record {
-                opposites = o;
-                rooted = record { number = R .number; dart = R .dart };
-              };
-            }
+    -- rows 5 and 6 have found nothing
+    module _ (n5 : r ≡ 5 → ⊥) (n6 : r ≡ 6 → ⊥) where
+      matched : SidesMatched ts (incidence s₂)
+      matched = found-none n (length ts / 3) ts (whole n ts L .0) (whole n ts L .2) (small n ts (L .least) none3) s₀ s₁ s₂ F f r M n5 n6
 
--- ---- 7 or 25, and row 8
+      passed : Passed n ts
+      passed = record { none3 = none3; none4 = none4; none5 = matched .none5; none6 = matched .none6 }
+
+      theSides : Sides n (length ts / 3) (org ts) (opp ts)
+      theSides = in-order n ts (length ts / 3) (whole n ts L .0) passed
+
+      rings-are : firstBroken (incidence s₂) n 0 ≡ row7or25 ts n
+      rings-are =
+          firstBroken-is ts (length ts / 3) (whole n ts L .0) n theSides (incidence s₂) (matched .tables .rooted) (matched .tables .turns)
+
+      -- each vertex has one ring
+      pub pairs : r ≡ 0 → Paired n ts (incidence s₂)
+      pairs e = record {
+        passed = passed;
+        rings = sym rings-are ∙ found-rings n (length ts / 3) ts (whole n ts L .0) (whole n ts L .2) (small n ts (L .least) none3) s₀ s₁ s₂ F f r M e;
+        tables = matched .tables;
+      }
+
+      -- or the lowest that has not is looked for
+      pub can-round : length s₂ ≡ length s → AllRounding n (length s₂) (incidence s₂)
+      can-round m v h = record {
+        vertex = rw m (omega (arith, L .room));
+        dart = λ k. record {
+          darts = length ts;
+          room = rw m (omega (arith, L .triangles, L .room));
+          below = λ d b. rw (matched .tables .turns d b) (omega (
+            arith,
+            whole n ts L .0,
+            theSides .dart (prev d) (prev-below (length ts / 3) d (omega (arith, whole n ts L .0))),
+          ));
+          at = outgoing-in ts v (matched .tables .rooted .dart v k) .0;
+        };
+      }
+
+      pub rounded : (q : MeshAnswer) → foundIn q ≡ firstBroken (incidence s₂) n 0 → SidesPaired n ts s₂ q
+      rounded Accepted g = record { passed = passed; rings = sym rings-are ∙ sym g; tables = matched .tables }
+      rounded (Refused why) g = from-vertex n ts (toRefusal why) passed (sym rings-are ∙ sym g)
+
+-- ---- row 8
 
 module _ (n : ℕ) (ts : List ℕ) (words : ℕ) (L : Lent n ts words) (s : List ℤ) (p : MeshAnswer) (e : p ≡ Accepted)
     (S : SidesPaired n ts s p) where
-  P : Paired n ts (tablesOf s)
+  P : Paired n ts (incidence s)
   P = rw e at S
 
-  theSides : Sides n (length ts / 3) (org ts) (opp ts)
-  theSides = in-order n ts (length ts / 3) (whole n ts L .0) (P .passed)
+  sides : Sides n (length ts / 3) (org ts) (opp ts)
+  sides = in-order n ts (length ts / 3) (whole n ts L .0) (P .passed)
 
-  -- the answer q of 7 and 25
-  module _ (q : MeshAnswer) (f : foundIn q ≡ firstBroken (tablesOf s) n 0) where
-    found7or25 : foundIn q ≡ row7or25 ts n
-    found7or25 = f ∙ firstBroken-is ts (length ts / 3) (whole n ts L .0) n theSides (tablesOf s) (P .tables .rooted) (P .tables .opposites)
+  pairing : Pairs (length ts / 3) (incidence s .turn) (opp ts)
+  pairing = record { dart = sides .dart; twice = sides .twice; turns = λ d h. P .tables .turns d (omega (arith, whole n ts L .0)) }
 
-    none7or25 : q ≡ Accepted → row7or25 ts n ≡ none
-    none7or25 a = sym found7or25 ∙ ap foundIn a
-
-    pub refuse7or25 : (why : Refusal) → q ≡ Refused why → Examined n ts s q
-    refuse7or25 why b = rw b (from-vertex n ts (toRefusal why) (P .passed) (sym found7or25 ∙ ap foundIn b))
+  pub can-walk : length s ≡ words → Sided (length ts / 3) (length s) (incidence s .turn)
+  can-walk l = record {
+    some = whole n ts L .2;
+    small = omega (arith, L .triangles, L .most);
+    room = rw l (omega (arith, L .triangles, L .room));
+    opp = opp ts;
+    pairs = pairing;
+  }
 
   module _ (s′ : List ℤ) (r : Bool) (D : Split (length ts / 3) s s′ r) where
     found8 : r ≡ row8 ts
-    found8 =
-        let w = whole n ts L in
-        D .found
-        ∙ explore-is ts n theSides (tablesOf s .op) (λ d h. P .tables .opposites d (omega (arith, w .0))) (D .mark) (w .2) (D .zeros)
+    found8 = D .found ∙ explore-is ts (incidence s .turn) pairing (D .flag) (D .queue) (whole n ts L .2) (D .zeros)
 
-    module _ (q : MeshAnswer) (f : foundIn q ≡ firstBroken (tablesOf s) n 0) (a : q ≡ Accepted) where
-      pub refuse8 : r ≡ true → firstRefusal (meshRows n ts) ≡ some (numbered 8)
-      refuse8 t = mesh-8 n ts (P .passed .none3) (P .passed .none4) (P .passed .none5) (P .passed .none6) (none7or25 q f a) (sym found8 ∙ t)
+    pub refuse8 : r ≡ true → firstRefusal (meshRows n ts) ≡ some (numbered 8)
+    refuse8 t = mesh-8 n ts (P .passed .none3) (P .passed .none4) (P .passed .none5) (P .passed .none6) (P .rings) (sym found8 ∙ t)
 
-      pub accept : r ≡ false → Accepting n ts (tablesOf s′)
-      unfolding withMark
-      accept t = record {
-        clean = clean-refusal n ts record {
-          clean3 = P .passed .none3;
-          clean4 = P .passed .none4;
-          clean5 = P .passed .none5;
-          clean6 = P .passed .none6;
-          clean7 = none7or25 q f a;
-          clean8 = sym found8 ∙ t;
-        };
-        tables = rw (D .same) record {
-          opposites = P .tables .opposites;
-          rooted = record { number = P .tables .rooted .number; dart = P .tables .rooted .dart };
-        };
-      }
+    pub accept : r ≡ false → Accepting n ts (incidence s′)
+    accept t = record {
+      clean = clean-refusal n ts record {
+        clean3 = P .passed .none3;
+        clean4 = P .passed .none4;
+        clean5 = P .passed .none5;
+        clean6 = P .passed .none6;
+        clean7 = P .rings;
+        clean8 = sym found8 ∙ t;
+      };
+      turns = λ d h. rw (D .turns) (P .tables .turns d h);
+      origins = λ d h. rw (D .origins) (P .tables .origins d h);
+    }
 
 -- ---- an answer taken apart
 
@@ -252,9 +233,9 @@ said-refused n ts s r why e S = let p : SidesPaired n ts s (Refused why) = rw e 
 
 -- ---- what the calls that go on from here have: an accepted mesh, and so a sphere
 
-pub accepting-mesh : {n : ℕ} {ts : List ℕ} {words : ℕ} {t : Tables} → Lent n ts words → Accepting n ts t → AcceptedMesh n ts
+pub accepting-mesh : {n : ℕ} {ts : List ℕ} {words : ℕ} {i : Incidence} → Lent n ts words → Accepting n ts i → AcceptedMesh n ts
 accepting-mesh {n} L A = (range-row1 mostVertices n (L .least) (L .most), L .triangles, A .clean)
 
-pub accepting-sphere : {n : ℕ} {ts : List ℕ} {words : ℕ} {t : Tables} → Lent n ts words → Accepting n ts t
+pub accepting-sphere : {n : ℕ} {ts : List ℕ} {words : ℕ} {i : Incidence} → Lent n ts words → Accepting n ts i
     → Sphere n (length ts / 3) (org ts) (opp ts)
 accepting-sphere {n} {ts} L A = accepted-sphere n ts (accepting-mesh L A)

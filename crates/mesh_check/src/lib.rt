@@ -1,24 +1,22 @@
 // The mesh check: rows 1 to 8 of the table of refusals and 25 at the place of 7, each over the whole mesh before the next, in work linear in n.
-// Of scratch it uses ten words a vertex: each dart has one, which holds a link of the lists of darts by origin until the dart's opposite is found
-// and takes its place; each vertex has a word for its first dart, one for its number of darts and two for marks, and the marks serve row 8 again.
+// The triangles are read until each dart's origin stands in its word. From then on scratch tells everything: `mesh_tables` says what its words hold.
 use lent_slices::mesh_rows;
 use mesh_answer::MeshAnswer;
 use mesh_answer::Refusal;
-use mesh_connectivity::check_rings;
 use mesh_connectivity::disconnected;
+use mesh_rings::check_rings;
 use mesh_sides::fill_incidence_lists;
 use mesh_sides::high_vertex;
 use mesh_sides::match_sides;
-use mesh_sides::repeated_vertex;
 use scratch_tables::clear;
-use scratch_tables::clear_tables;
+use scratch_tables::clear_vertices;
 ghost use mathlib.Core.Path.{_≡_};
 ghost use lib.ListN.{length};
 ghost use Rattle.definitions.specs.Refusals.{checkCall};
 ghost use Rattle.mesh_answer.specs.Answer.{meshToAnswer};
 ghost use Rattle.mesh_check.specs.Stages.{Lent, SidesPaired, Examined};
 
-// rows 3 to 6
+// Rows 3 to 7, and 25. Which vertex has not one ring is asked only where one has not.
 fn pair_sides(n: usize, triangles: &[u16], scratch: &mut [i64]) -> MeshAnswer
     requires { ⌜ Lent n (now triangles) (length (now scratch)) ⌝ }
     ensures { λ r. ⌜ SidesPaired n (now (triangles .entry)) (now (scratch .exit)) r ⌝ }
@@ -26,23 +24,25 @@ fn pair_sides(n: usize, triangles: &[u16], scratch: &mut [i64]) -> MeshAnswer
     if high_vertex(n, triangles) {
         return MeshAnswer::Refused(Refusal::Numbered(3));
     }
-    if repeated_vertex(triangles) {
+    clear_vertices(scratch);
+    if fill_incidence_lists(triangles, scratch) {
         return MeshAnswer::Refused(Refusal::Numbered(4));
     }
-    clear_tables(scratch);
-    fill_incidence_lists(triangles, scratch);
-    let row = match_sides(n, triangles, scratch);
+    let row = match_sides(n, scratch);
     if row == 5 {
         return MeshAnswer::Refused(Refusal::Numbered(5));
     }
     if row == 6 {
         return MeshAnswer::Refused(Refusal::Numbered(6));
     }
-    MeshAnswer::Accepted
+    if row == 0 {
+        return MeshAnswer::Accepted;
+    }
+    check_rings(n, scratch)
 }
 
-// Rows 3 to 8, for every call on a mesh. Where the mesh is accepted scratch holds its tables: the opposites, each vertex's first dart and the number
-// of its darts. Where it is refused nothing is said of scratch: the call clears it.
+// Rows 3 to 8, for every call on a mesh. Where the mesh is accepted scratch holds each dart's turn and origin. Where it is refused nothing is said of
+// scratch: the call clears it.
 pub fn examine(n: usize, triangles: &[u16], scratch: &mut [i64]) -> MeshAnswer
     requires { ⌜ Lent n (now triangles) (length (now scratch)) ⌝ }
     ensures { λ r. ⌜ Examined n (now (triangles .entry)) (now (scratch .exit)) r ⌝ }
@@ -50,10 +50,6 @@ pub fn examine(n: usize, triangles: &[u16], scratch: &mut [i64]) -> MeshAnswer
     let paired = pair_sides(n, triangles, scratch);
     let MeshAnswer::Accepted = paired else {
         return paired;
-    };
-    let rings = check_rings(n, scratch);
-    let MeshAnswer::Accepted = rings else {
-        return rings;
     };
     if disconnected(scratch, triangles.len() / 3) {
         return MeshAnswer::Refused(Refusal::Numbered(8));

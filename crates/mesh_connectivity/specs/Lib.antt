@@ -1,3 +1,2 @@
--- What is known at each iteration of the loops of rows 7 and 8.
-pub mod RingLoops
+-- What the functions of row 8 ask and give.
 pub mod FloodFillLoops

@@ -1,169 +1,165 @@
-// 7, 25 and 8 of the table of refusals. 25: a vertex has no dart. 7: from its first dart by rotations; of as many as it has darts only the last may come back.
-// Row 8: a flood fill from the outer triangle across sides, by a stack of the triangles that are reached and not yet left. The stack's
-// links stand in the marks, so that a mark that is not 0 says too that its triangle is reached.
-use mesh_answer::MeshAnswer;
-use mesh_answer::Refusal;
-use scratch_tables::get_count;
-use scratch_tables::get_head;
-use scratch_tables::get_mark;
-use scratch_tables::get_op;
+// Row 8: a walk over the triangles from the outer one. A triangle is entered across one of its sides, by a dart of its own, and left by the two others; a
+// flag says that it is reached. Those that wait to be left stand in a queue. Where few do, the walk goes on to one just reached, so that it need not
+// wait for the queue's words. As many triangles are left as are reached, so the walk ends too soon just where there are several pieces.
+use mesh_tables::turn;
+use scratch_tables::flag;
 use scratch_tables::prev_dart;
-use scratch_tables::set_mark;
+use scratch_tables::queue_word;
+use scratch_tables::set_flag;
+use scratch_tables::set_queue;
 ghost use mathlib.Core.Path.{_≡_};
-ghost use Prim.Native.Nat.{_<_, _^_, _+_, _-_};
-ghost use Rattle.scratch_tables.specs.Tables.{tablesOf};
-ghost use Rattle.mesh_answer.specs.Answer.{foundIn};
-ghost use Rattle.mesh_model.specs.RingWalk.{returnsWithin, brokenAt, firstBroken};
-ghost use mathlib.Core.Bool.{_&&_};
-ghost use lib.Dec.{ltb, eqb};
+ghost use Prim.Native.Nat.{_*_, _≤_};
 ghost use lib.ListN.{length};
-ghost use Rattle.definitions.specs.Lists.{any, upto};
-ghost use Rattle.mesh_model.specs.FloodFill.{visit, leave};
-ghost use Rattle.mesh_connectivity.specs.FloodFillLoops.{Marks, Wiping, Moved, Explored, Split, front};
+ghost use Rattle.definitions.specs.Mesh.{tri};
+ghost use Rattle.scratch_tables.specs.Tables.{column, markIn, tablesOf, flagsOf, queueOf, Flagged};
+ghost use Rattle.mesh_tables.specs.Incidence.{incidence};
+ghost use Rattle.mesh_model.specs.FloodFill.{isNew, gain, pop, wide, narrow, onward, leave, begin};
+ghost use Rattle.mesh_connectivity.specs.FloodFillLoops.{front, Sided, Going, Leaving, Starting, Space, Unflagging, Moved, Explored, Split};
 
-// One of k rotations from h comes back to h.
-fn returns_to(s: &[i64], h: usize, k: usize) -> bool
-    requires { ⌜ h < 2 ^ 63 ⌝ }
-    ensures { λ r. ⌜ r ≡ returnsWithin (tablesOf (now (s .entry)) .op) h k h ⌝ }
-{
-    let mut d = h;
-    let mut i = 0;
-    while i < k {
-        d = get_op(s, prev_dart(d));
-        if d == h {
-            return true;
-        }
-        i += 1;
-    }
-    false
+// Where the walk is: the dart by which the triangle at hand was entered, and the darts of the queue that wait, from `from` on and before `to`. Once `from`
+// is past `to` none is at hand.
+pub struct Place {
+    pub dart: usize,
+    pub from: usize,
+    pub to: usize,
 }
 
-// the triangles at v: one ring, none at all, or several rings
-fn check_ring(s: &[i64], v: usize) -> MeshAnswer
-    ensures { λ r. ⌜ foundIn r ≡ brokenAt (tablesOf (now (s .entry))) v ⌝ }
-{
-    let k = get_count(s, v);
-    if k == 0 {
-        return MeshAnswer::Refused(Refusal::VertexStray(v));
-    }
-    let h = get_head(s, v);
-    if returns_to(s, h, k - 1) {
-        return MeshAnswer::Refused(Refusal::VertexPinched(v));
-    }
-    MeshAnswer::Accepted
-}
-
-// 7 and 25: the lowest vertex that has not one ring decides
-pub fn check_rings(n: usize, s: &[i64]) -> MeshAnswer
-    ensures { λ r. ⌜ foundIn r ≡ firstBroken (tablesOf (now (s .entry))) n 0 ⌝ }
-{
-    let mut v = 0;
-    while v < n {
-        let ring = check_ring(s, v);
-        let MeshAnswer::Accepted = ring else {
-            return ring;
-        };
-        v += 1;
-    }
-    MeshAnswer::Accepted
-}
-
-// zeros in the first m marks
-fn clear_marks(s: &mut [i64], m: usize)
-    requires { ⌜ Marks m (length (now s)) ⌝ }
-    ensures { λ r. ⌜ Wiping (now (s .entry)) (now (s .exit)) m ⌝ }
+// zeros in the flags of m triangles
+fn clear_flags(s: &mut [i64], m: usize)
+    requires { ⌜ m ≤ 2 * column (length (now s)) ⌝ }
+    ensures { λ r. ⌜ Unflagging (now (s .entry)) (now (s .exit)) m ⌝ }
 {
     let mut t = 0;
     while t < m {
-        set_mark(s, t, 0);
+        set_flag(s, t, 0);
         t += 1;
     }
 }
 
-// t is one of m triangles, and not reached yet.
-fn is_unreached(s: &[i64], m: usize, t: usize) -> bool
-    ensures { λ r. ⌜ r ≡ (ltb t m && eqb (tablesOf (now (s .entry)) .mark t) 0) ⌝ }
+// The triangle of dart x is reached. The answer says whether it was not before.
+fn visit(s: &mut [i64], x: usize) -> bool
+    requires { ⌜ markIn (length (now s)) (tri x) ⌝ }
+    ensures flag { λ r. ⌜ Flagged (now (s .entry)) (now (s .exit)) (tri x) 1 ⌝ }
+    ensures new { λ r. ⌜ r ≡ isNew x (flagsOf (now (s .entry))) ⌝ }
 {
-    if t < m {
-        let k = get_mark(s, t);
-        k == 0
-    } else {
-        false
-    }
-}
-
-// The triangle across dart d goes on the stack, where it is new. The answer is the new top: one more than its triangle, 0 where there is none.
-fn push_neighbour(s: &mut [i64], m: usize, d: usize, top: usize) -> usize
-    requires { ⌜ Marks m (length (now s)) × (top + 1 < 2 ^ 63) ⌝ }
-    ensures moved { λ r. ⌜ Moved (now (s .entry)) (now (s .exit)) r (visit (tablesOf (now (s .entry)) .op) m d (front (tablesOf (now (s .entry))) top)) ⌝ }
-    ensures small { λ r. ⌜ r + 1 < 2 ^ 63 ⌝ }
-{
-    let x = get_op(s, d);
     let t = x / 3;
-    if is_unreached(s, m, t) {
-        set_mark(s, t, top + 1);
-        t + 1
-    } else {
-        top
+    let k = flag(s, t);
+    set_flag(s, t, 1);
+    k == 0
+}
+
+// 1, where p says that there is one
+fn one(p: bool) -> usize
+    ensures { λ r. ⌜ r ≡ gain p ⌝ }
+{
+    if p { 1 } else { 0 }
+}
+
+// the first that waits is at hand
+fn pop(s: &[i64], from: usize, to: usize) -> Place
+    requires { ⌜ markIn (length (now s)) from × (from ≤ to) ⌝ }
+    ensures { λ r. ⌜ front (now (s .entry)) r ≡ pop (flagsOf (now (s .entry))) (queueOf (now (s .entry))) from to ⌝ }
+{
+    Place {
+        dart: queue_word(s, from),
+        from: from + 1,
+        to: to,
     }
 }
 
-// The top triangle is taken off the stack, and left by each of its sides.
-fn pop_triangle(s: &mut [i64], m: usize, top: usize) -> usize
-    requires { ⌜ Marks m (length (now s)) × (0 < top) × (top + 1 < 2 ^ 63) ⌝ }
-    ensures moved { λ r. ⌜ Moved (now (s .entry)) (now (s .exit)) r (leave (tablesOf (now (s .entry)) .op) m (front (tablesOf (now (s .entry))) top)) ⌝ }
-    ensures small { λ r. ⌜ r + 1 < 2 ^ 63 ⌝ }
+// Where many wait: a and b join the queue, where p and q say that their triangles were new. What is stored past the queue's end does no harm.
+fn wide(s: &mut [i64], a: usize, b: usize, p: bool, q: bool, from: usize, to: usize) -> Place
+    requires { ⌜ Space (length (now s)) a b p q from to ⌝ }
+    ensures { λ r. ⌜ Moved (now (s .entry)) (now (s .exit)) r (wide a b p q (flagsOf (now (s .entry))) (queueOf (now (s .entry))) from to) ⌝ }
 {
-    let t = top - 1;
-    if t < m {
-        let link = get_mark(s, t);
-        let below = int64::saturating_sub(link, 1);
-        let a = push_neighbour(s, m, 3 * t, below);
-        let b = push_neighbour(s, m, 3 * t + 1, a);
-        push_neighbour(s, m, 3 * t + 2, b)
-    } else {
-        0
-    }
+    set_queue(s, to, a);
+    let t = to + one(p);
+    set_queue(s, t, b);
+    let u = t + one(q);
+    pop(s, from, u)
 }
 
-// Triangles are left until the stack is empty. The outer triangle is on it.
-fn flood_fill(s: &mut [i64], m: usize)
-    requires { ⌜ Marks m (length (now s)) ⌝ }
-    ensures { λ r. ⌜ Explored m (now (s .entry)) (now (s .exit)) ⌝ }
+// Where few do: the walk goes on by a, or else by b. Where both were new, b waits; where neither was, the first that waits is next.
+fn narrow(s: &mut [i64], a: usize, b: usize, p: bool, q: bool, from: usize, to: usize) -> Place
+    requires { ⌜ Space (length (now s)) a b p q from to ⌝ }
+    ensures { λ r. ⌜ Moved (now (s .entry)) (now (s .exit)) r (narrow a b p q (flagsOf (now (s .entry))) (queueOf (now (s .entry))) from to) ⌝ }
 {
-    let mut top = 1;
+    if p {
+        set_queue(s, to, b);
+        let u = to + one(q);
+        return Place {
+            dart: a,
+            from: from,
+            to: u,
+        };
+    }
+    if q {
+        return Place {
+            dart: b,
+            from: from,
+            to: to,
+        };
+    }
+    pop(s, from, to)
+}
+
+fn onward(s: &mut [i64], a: usize, b: usize, p: bool, q: bool, from: usize, to: usize) -> Place
+    requires { ⌜ Space (length (now s)) a b p q from to ⌝ }
+    ensures { λ r. ⌜ Moved (now (s .entry)) (now (s .exit)) r (onward a b p q (flagsOf (now (s .entry))) (queueOf (now (s .entry))) from to) ⌝ }
+{
+    if 8 < to - from {
+        return wide(s, a, b, p, q, from, to);
+    }
+    narrow(s, a, b, p, q, from, to)
+}
+
+// The triangle at hand is left by the two sides other than the one that it was entered by.
+fn leave(s: &mut [i64], place: Place) -> Place
+    requires { ⌜ Leaving (length (now s)) (incidence (now s) .turn) (front (now s) place) ⌝ }
+    ensures { λ r. ⌜ Moved (now (s .entry)) (now (s .exit)) r (leave (incidence (now (s .entry)) .turn) (front (now (s .entry)) place)) ⌝ }
+{
+    let a = turn(s, place.dart);
+    let b = turn(s, prev_dart(place.dart));
+    let p = visit(s, a);
+    let q = visit(s, b);
+    onward(s, a, b, p, q, place.from, place.to)
+}
+
+// The outer triangle is reached, and the one across its dart 0. It stays to be left by its two other sides.
+fn begin(s: &mut [i64]) -> Place
+    requires { ⌜ Starting (length (now s)) (incidence (now s) .turn) ⌝ }
+    ensures { λ r. ⌜ Moved (now (s .entry)) (now (s .exit)) r
+        (begin (incidence (now (s .entry)) .turn) (flagsOf (now (s .entry))) (queueOf (now (s .entry)))) ⌝ }
+{
+    set_flag(s, 0, 1);
+    let y = turn(s, 1);
+    let p = visit(s, y);
+    narrow(s, y, 0, p, true, 0, 0)
+}
+
+// Before m triangles are left none is at hand.
+fn explore(s: &mut [i64], m: usize, start: Place) -> bool
+    requires { ⌜ Going m (length (now s)) (incidence (now s) .turn) 0 (front (now s) start) ⌝ }
+    ensures { λ r. ⌜ Explored m (now (s .entry)) (now (s .exit)) start r ⌝ }
+{
+    let mut place = start;
     let mut i = 0;
     while i < m {
-        if top == 0 {
-            return;
-        }
-        top = pop_triangle(s, m, top);
-        i += 1;
-    }
-}
-
-// One of m triangles has no mark.
-fn some_unmarked(s: &[i64], m: usize) -> bool
-    ensures { λ r. ⌜ r ≡ any (λ t. eqb (tablesOf (now (s .entry)) .mark t) 0) (upto m) ⌝ }
-{
-    let mut t = 0;
-    while t < m {
-        let link = get_mark(s, t);
-        if link == 0 {
+        if place.to < place.from {
             return true;
         }
-        t += 1;
+        place = leave(s, place);
+        i += 1;
     }
     false
 }
 
 // row 8: one of m triangles is not reached from the outer one
 pub fn disconnected(s: &mut [i64], m: usize) -> bool
-    requires { ⌜ Marks m (length (now s)) × (0 < m) ⌝ }
+    requires { ⌜ Sided m (length (now s)) (incidence (now s) .turn) ⌝ }
     ensures { λ r. ⌜ Split m (now (s .entry)) (now (s .exit)) r ⌝ }
 {
-    clear_marks(s, m);
-    set_mark(s, 0, 1);
-    flood_fill(s, m);
-    some_unmarked(s, m)
+    clear_flags(s, m);
+    let start = begin(s);
+    explore(s, m, start)
 }

@@ -1,339 +1,587 @@
--- Row 8 by a stack of triangles: those that are reached and not yet left. A triangle's mark is 0 until it is reached, and then links it to the one
--- below it on the stack, so that marks and stack share one table. Assumes nothing.
+-- Row 8 by a walk over the triangles from the outer one. A triangle is entered across one of its sides, by a dart of its own, and left by the two
+-- others. It is marked by a flag once it is reached. Those that wait to be left stand in a queue; where few do, the walk goes on to a triangle just
+-- reached. Assumes nothing.
 use Prim.Native.Nat.{ℕ, zero, suc, _+_, _-_, _*_, _/_, _≤_, _<_}
 use mathlib.Core.Path.{_≡_, refl, sym, ap, _∙_}
 use mathlib.Core.Logic.{_≢_, _⊎_, inl, inr, ⊎-elim}
-use mathlib.Core.Bool.{Bool, true, false, cond, _&&_}
+use mathlib.Core.Bool.{Bool, true, false, cond}
 use mathlib.Core.List.{List, [], _∷_, List·Memᴰ·head, List·Memᴰ·tail, List·Memᴰ·cases-cons, List·Memᴰ·not-nil}
 use mathlib.Core.List.{List·Memᴰ·eq-of-singleton, Memᴰ·cast}
 use native.Mathlib.Omega.{arith}
-use native.Mathlib.Decide.{ℕ-discrete}
-use lib.Dec.{ltb, eqb}
+use native.Mathlib.Decide.{ℕ-discrete, decLe}
+use lib.Dec.{eqb, ltb}
 use lib.ListN.{length}
-use borrow.Author.Tests.{lt-ltb, eq-eqb, ne-eqb, eqb-true, eqb-false}
-use Rattle.definitions.specs.Lists.{any, upto}
-use Rattle.definitions.specs.Mesh.{tri, org, opp, row8}
-use Rattle.laws.specs.Chain.{stop, step}
-use Rattle.laws.specs.Lists.{_∈_, tested, unfalse, upto-some, upto-none, in-upto, length-upto}
-use Rattle.laws.specs.Counting.{Distinct, nil, cons, distinct-within}
-use Rattle.theory_sphere.specs.Darts.{tri-below}
-use Rattle.theory_sphere.specs.Sides.{Sides}
-use Rattle.theory_sphere.specs.Components.{Joined, row8-joined}
+use borrow.Author.Tests.{eq-eqb, ne-eqb, lt-ltb, le-ltb}
+use Rattle.definitions.specs.Lists.{upto}
+use Rattle.definitions.specs.Mesh.{tri, next, prev, opp, row8}
+use Rattle.laws.specs.Chain.{Chain, stop, step}
+use Rattle.laws.specs.Lists.{_∈_, tested, clash, unfalse, upto-in, in-upto, length-upto}
+use Rattle.laws.specs.Counting.{Distinct, nil, cons, distinct-within, distinct-full, distinct-upto}
+use Rattle.theory_sphere.specs.Darts.{same-tri, tri-below, tri-next, tri-prev, tri-outer, prev-prev, prev-below, next-below}
+use Rattle.theory_sphere.specs.Components.{row8-joined}
 use Rattle.scratch_tables.specs.Tables.{upd, upd-same, upd-at, upd-other}
 
--- `top` is one more than the triangle on top of the stack, and 0 where the stack is empty.
 pub record Front : Type 0 where
-  pub mark : ℕ → ℕ
-  pub top : ℕ
+  -- of a triangle: 0 until it is reached
+  pub flag : ℕ → ℕ
+  -- the darts by which triangles were entered: those from `from` on and before `to` wait to be left
+  pub queue : ℕ → ℕ
+  pub from : ℕ
+  pub to : ℕ
+  -- the dart by which the triangle at hand was entered; there is none once `from` is past `to`
+  pub dart : ℕ
 
--- the triangle across dart d is one of m triangles, and has no mark
-unfoldable pub fresh : (ℕ → ℕ) → ℕ → ℕ → Front → Bool
-fresh op m d f = ltb (tri (op d)) m && eqb (f .mark (tri (op d))) 0
+-- the triangle of dart x is not reached yet
+unfoldable pub isNew : ℕ → (ℕ → ℕ) → Bool
+isNew x flag = eqb (flag (tri x)) 0
 
-pub fresh-true : (op : ℕ → ℕ) (m d : ℕ) (f : Front) → tri (op d) < m → f .mark (tri (op d)) ≡ 0 → fresh op m d f ≡ true
-unfolding fresh
-fresh-true op m d f h z = ap (λ (b : Bool). b && eqb (f .mark (tri (op d))) 0) (lt-ltb (tri (op d)) m h) ∙ eq-eqb (f .mark (tri (op d))) 0 z
+-- now it is
+unfoldable pub reach : ℕ → (ℕ → ℕ) → ℕ → ℕ
+reach x flag = upd (tri x) 1 flag
 
-pub fresh-false : (op : ℕ → ℕ) (m d : ℕ) (f : Front) → tri (op d) < m → f .mark (tri (op d)) ≢ 0 → fresh op m d f ≡ false
-unfolding fresh
-fresh-false op m d f h z = ap (λ (b : Bool). b && eqb (f .mark (tri (op d))) 0) (lt-ltb (tri (op d)) m h) ∙ ne-eqb (f .mark (tri (op d))) 0 z
+abbrev pub gain : Bool → ℕ
+gain true = 1
+gain false = 0
 
--- it is put on the stack, where it is new
-unfoldable pub visit : (ℕ → ℕ) → ℕ → ℕ → Front → Front
-visit op m d f =
-    cond (fresh op m d f)
-    (record { mark = upd (tri (op d)) (f .top + 1) (f .mark); top = tri (op d) + 1 })
-    f
+-- the first that waits is at hand
+unfoldable pub pop : (ℕ → ℕ) → (ℕ → ℕ) → ℕ → ℕ → Front
+pop flag queue from to = record { flag = flag; queue = queue; from = from + 1; to = to; dart = queue from }
 
--- the stack without its top triangle
-unfoldable pub popped : Front → Front
-popped f = record { mark = f .mark; top = f .mark (f .top - 1) - 1 }
+-- p and q tell whether the triangles of darts a and b were new. Where many wait, these join the queue; a store that is not counted does no harm.
+unfoldable pub wide : ℕ → ℕ → Bool → Bool → (ℕ → ℕ) → (ℕ → ℕ) → ℕ → ℕ → Front
+wide a b p q flag queue from to = pop flag (upd (to + gain p) b (upd to a queue)) from (to + gain p + gain q)
 
--- The top triangle is left, by each of its sides. (It is one of the m triangles, which is tried before its sides are read.)
-unfoldable pub leave : (ℕ → ℕ) → ℕ → Front → Front
-leave op m f =
-    cond (ltb (f .top - 1) m)
-    (visit op m (3 * (f .top - 1) + 2) (visit op m (3 * (f .top - 1) + 1) (visit op m (3 * (f .top - 1)) (popped f))))
-    (record { mark = f .mark; top = 0 })
+-- Where few do, the walk goes on by a, or else by b; where both were new, b waits.
+unfoldable pub narrow : ℕ → ℕ → Bool → Bool → (ℕ → ℕ) → (ℕ → ℕ) → ℕ → ℕ → Front
+narrow a b true q flag queue from to = record { flag = flag; queue = upd to b queue; from = from; to = to + gain q; dart = a }
+narrow a b false true flag queue from to = record { flag = flag; queue = queue; from = from; to = to; dart = b }
+narrow a b false false flag queue from to = pop flag queue from to
 
--- at most k triangles are left, until the stack is empty
-unfoldable pub explore : (ℕ → ℕ) → ℕ → ℕ → Front → Front
-explore op m zero f = f
-explore op m (suc k) f = cond (eqb (f .top) 0) f (explore op m k (leave op m f))
+unfoldable pub onward : ℕ → ℕ → Bool → Bool → (ℕ → ℕ) → (ℕ → ℕ) → ℕ → ℕ → Front
+onward a b p q flag queue from to = cond (ltb 8 (to - from)) (wide a b p q flag queue from to) (narrow a b p q flag queue from to)
 
--- from the outer triangle
-unfoldable pub begin : (ℕ → ℕ) → Front
-begin mark = record { mark = upd 0 1 mark; top = 1 }
+-- the triangle at hand is left for those of darts a and b
+unfoldable pub leaveFor : ℕ → ℕ → Front → Front
+leaveFor a b f =
+    onward a b (isNew a (f .flag)) (isNew b (reach a (f .flag))) (reach b (reach a (f .flag))) (f .queue) (f .from) (f .to)
 
--- ---- the stack, as a list
+-- and these are the darts across its two other sides
+unfoldable pub leave : (ℕ → ℕ) → Front → Front
+leave turn f = leaveFor (turn (f .dart)) (turn (prev (f .dart))) f
 
-abbrev Links : (ℕ → ℕ) → List ℕ → ℕ → Type 0
-Links mark [] top = top ≡ 0
-Links mark (u ∷ us) top = (top ≡ u + 1) × (below : ℕ) × (mark u ≡ below + 1) × Links mark us below
+-- before k triangles are left none is at hand
+unfoldable pub explore : (ℕ → ℕ) → ℕ → Front → Bool
+explore turn zero f = false
+explore turn (suc k) f = cond (ltb (f .to) (f .from)) true (explore turn k (leave turn f))
 
-links-other : (mark : ℕ → ℕ) (us : List ℕ) (top u x : ℕ) → (u ∈ us → ⊥) → Links mark us top → Links (upd u x mark) us top
-links-other mark [] top u x f l = l
-links-other mark (w ∷ us) top u x f l = (
-  l .0,
-  l .1,
-  upd-other u w x mark (λ q. f (List·Memᴰ·head (sym q))) ∙ l .2,
-  links-other mark us (l .1) u x (λ m. f (List·Memᴰ·tail m)) (l .3),
-)
+-- The outer triangle is reached, and then the one across its dart 0, by dart y. The outer one stays to be left by its two other sides.
+unfoldable pub startBy : ℕ → (ℕ → ℕ) → (ℕ → ℕ) → Front
+startBy y flag queue = narrow y 0 (isNew y flag) true (reach y flag) queue 0 0
 
--- the three darts of triangle t
-threes : ℕ → List ℕ
-threes t = (3 * t) ∷ (3 * t + 1) ∷ (3 * t + 2) ∷ []
+unfoldable pub begin : (ℕ → ℕ) → (ℕ → ℕ) → (ℕ → ℕ) → Front
+begin turn flag queue = startBy (turn 1) (upd 0 1 flag) queue
 
-in-threes : (d t : ℕ) → tri d ≡ t → d ∈ threes t
-unfolding threes tri
-in-threes d t e =
-    elim (ℕ-discrete d (3 * t)) [
-      | yes a ↦ List·Memᴰ·head a
-      | no a ↦
-          elim (ℕ-discrete d (3 * t + 1)) [
-            | yes b ↦ List·Memᴰ·tail (List·Memᴰ·head b)
-            | no b ↦ let c : d ≡ 3 * t + 2 = omega arith in List·Memᴰ·tail (List·Memᴰ·tail (List·Memᴰ·head c))
-          ]
-    ]
+-- ---- what is known on the way
 
-corner : (t k : ℕ) → k < 3 → tri (3 * t + k) ≡ t
-unfolding tri
-corner t k l = omega arith
+-- `opp` pairs the darts of m triangles, and a turn leads across the side before
+pub record Pairs (m : ℕ) (turn opp : ℕ → ℕ) : Type 0 where
+  pub dart : (d : ℕ) → d < 3 * m → opp d < 3 * m
+  pub twice : (d : ℕ) → d < 3 * m → opp (opp d) ≡ d
+  pub turns : (d : ℕ) → d < 3 * m → turn d ≡ opp (prev d)
 
-module _ (ts : List ℕ) (n : ℕ) (S : Sides n (length ts / 3) (org ts) (opp ts))
-    (op : ℕ → ℕ) (O : (e : ℕ) → e < 3 * (length ts / 3) → op e ≡ opp ts e) where
-  abbrev T : ℕ
-  T = length ts / 3
+-- e is another dart of the triangle of x
+abbrev Other : ℕ → ℕ → Type 0
+Other x e = (e ≡ next x) ⊎ (e ≡ prev x)
 
-  -- `reached` are the triangles with a mark, `stack` those of them on the stack, `darts` the sides that the triangle just taken off has yet to
-  -- be left by, and i triangles were taken off.
-  record Reached (i : ℕ) (reached stack darts : List ℕ) (f : Front) : Type 0 where
-    links : Links (f .mark) stack (f .top)
-    seen : (t : ℕ) → t ∈ reached → f .mark t ≢ 0
-    unseen : (t : ℕ) → t < T → f .mark t ≢ 0 → t ∈ reached
-    below : (t : ℕ) → t ∈ reached → t < T
+pub gain-most : (p : Bool) → gain p ≤ 1
+gain-most true = omega arith
+gain-most false = omega arith
+
+-- `new` is `old`, and t where p says so
+record Grown (p : Bool) (t : ℕ) (old new : List ℕ) : Type 0 where
+  keeps : (u : ℕ) → u ∈ old → u ∈ new
+  has : t ∈ new
+  only : (u : ℕ) → u ∈ new → (u ∈ old) ⊎ ((p ≡ true) × (u ≡ t))
+  long : length new ≡ gain p + length old
+
+module _ (m : ℕ) where
+  -- the triangles whose flag is not 0
+  record Known (reached : List ℕ) (flag : ℕ → ℕ) : Type 0 where
+    seen : (t : ℕ) → t ∈ reached → flag t ≢ 0
+    unseen : (t : ℕ) → t < m → flag t ≢ 0 → t ∈ reached
+    below : (t : ℕ) → t ∈ reached → t < m
     once : Distinct reached
-    count : i + length stack ≡ length reached
-    stacked : (t : ℕ) → t ∈ stack → t ∈ reached
-    outer : 0 ∈ reached
-    joined : (t : ℕ) → t ∈ reached → Joined ts t
-    closed : (d : ℕ) → d < 3 * T → tri d ∈ reached → (tri d ∈ stack) ⊎ ((d ∈ darts) ⊎ (tri (op d) ∈ reached))
 
-  record Going (i : ℕ) (darts : List ℕ) (f : Front) : Type 0 where
-    reached : List ℕ
-    stack : List ℕ
-    facts : Reached i reached stack darts f
+  few : {reached : List ℕ} {flag : ℕ → ℕ} → Known reached flag → length reached ≤ m
+  few K = omega (arith, distinct-within (K .once) (upto m) (λ t k. in-upto m t (K .below t k)), length-upto m)
 
-  -- the triangle across a side of one that is joined is joined
-  across : (d : ℕ) → d < 3 * T → Joined ts (tri d) → Joined ts (tri (op d))
-  across d h c =
-      let e = O d h in
-      rw e (step (opp ts d) (S .dart d h) refl (rw (S .twice d h) c))
+  -- x is a dart of a reached triangle
+  record Entered (reached : List ℕ) (x : ℕ) : Type 0 where
+    below : x < 3 * m
+    there : tri x ∈ reached
 
-  visit-new : (i d : ℕ) (darts reached stack : List ℕ) (f : Front) → d < 3 * T → tri d ∈ reached → f .mark (tri (op d)) ≡ 0
-      → Reached i reached stack (d ∷ darts) f
-      → Reached i (tri (op d) ∷ reached) (tri (op d) ∷ stack) darts
-      (record { mark = upd (tri (op d)) (f .top + 1) (f .mark); top = tri (op d) + 1 })
-  visit-new i d darts reached stack f h m z I =
-      let u = tri (op d) in
-      let fresh : u ∈ reached → ⊥ = λ k. I .seen u k z in
-      record {
-        links = (
-          refl,
-          f .top,
-          upd-same u (f .top + 1) (f .mark),
-          links-other (f .mark) stack (f .top) u (f .top + 1) (λ k. fresh (I .stacked u k)) (I .links),
-        );
-        seen = λ t k.
-            ⊎-elim
-            (λ q. rw (upd-at u t (f .top + 1) (f .mark) q) (omega arith))
-            (λ k. rw (upd-other u t (f .top + 1) (f .mark) (λ q. fresh (Memᴰ·cast (sym q) k))) (I .seen t k))
-            (List·Memᴰ·cases-cons k);
-        unseen = λ t l k.
-            elim (ℕ-discrete t u) [
-              | yes q ↦ List·Memᴰ·head q
-              | no q ↦ List·Memᴰ·tail (I .unseen t l (rw (upd-other u t (f .top + 1) (f .mark) q) at k))
-            ];
-        below = λ t k.
-            ⊎-elim
-            (λ q. let l = tri-below T (op d) (rw (O d h) (S .dart d h)) in omega arith)
-            (λ k. I .below t k)
-            (List·Memᴰ·cases-cons k);
-        once = cons fresh (I .once);
-        count = omega (arith, I .count);
-        stacked = λ t k. ⊎-elim (λ q. List·Memᴰ·head q) (λ k. List·Memᴰ·tail (I .stacked t k)) (List·Memᴰ·cases-cons k);
-        outer = List·Memᴰ·tail (I .outer);
-        joined = λ t k. ⊎-elim (λ q. rw q (across d h (I .joined (tri d) m))) (λ k. I .joined t k) (List·Memᴰ·cases-cons k);
-        closed = λ e l k.
-            ⊎-elim
-            (λ q. inl (List·Memᴰ·head q))
-            (λ k. ⊎-elim
-            (λ a. inl (List·Memᴰ·tail a))
-            (⊎-elim
-            (λ a. ⊎-elim (λ q. inr (inr (List·Memᴰ·head (ap (λ (x : ℕ). tri (op x)) q)))) (λ a. inr (inl a)) (List·Memᴰ·cases-cons a))
-            (λ a. inr (inr (List·Memᴰ·tail a))))
-            (I .closed e l k))
-            (List·Memᴰ·cases-cons k);
-      }
+  module _ (opp : ℕ → ℕ) where
+    -- steps across sides lead from triangle t to the outer one
+    abbrev Linked : ℕ → Type 0
+    Linked t = Chain (λ d. d < 3 * m) tri (λ d. tri (opp d)) 0 t
 
-  visit-old : (i d : ℕ) (darts reached stack : List ℕ) (f : Front) → d < 3 * T → f .mark (tri (op d)) ≢ 0
-      → Reached i reached stack (d ∷ darts) f → Reached i reached stack darts f
-  visit-old i d darts reached stack f h z I =
-      let u = tri (op d) in
-      let known : u ∈ reached = I .unseen u (tri-below T (op d) (rw (O d h) (S .dart d h))) z in
-      record {
-        links = I .links;
-        seen = I .seen;
-        unseen = I .unseen;
-        below = I .below;
-        once = I .once;
-        count = I .count;
-        stacked = I .stacked;
-        outer = I .outer;
-        joined = I .joined;
-        closed = λ e l k.
-            ⊎-elim
-            (λ a. inl a)
-            (⊎-elim
-            (λ a. ⊎-elim (λ q. inr (inr (rw q known))) (λ a. inr (inl a)) (List·Memᴰ·cases-cons a))
-            (λ a. inr (inr a)))
-            (I .closed e l k);
-      }
+    -- i triangles are left, and each side of a reached one leads to a reached one, or belongs to one that waits and was not entered there
+    pub record Reached (i : ℕ) (f : Front) : Type 0 where
+      reached : List ℕ
+      known : Known reached (f .flag)
+      count : i + f .to + 1 ≡ length reached + f .from
+      order : f .from ≤ f .to + 1
+      short : f .to ≤ length reached
+      outer : 0 ∈ reached
+      linked : (t : ℕ) → t ∈ reached → Linked t
+      hand : f .from ≤ f .to → Entered reached (f .dart)
+      entries : (j : ℕ) → f .from ≤ j → j < f .to → Entered reached (f .queue j)
+      closed : (e : ℕ) → e < 3 * m → tri e ∈ reached → (tri (opp e) ∈ reached)
+          ⊎ (((f .from ≤ f .to) × Other (f .dart) e) ⊎ ((j : ℕ) × (f .from ≤ j) × (j < f .to) × Other (f .queue j) e))
 
-  -- a visit, where the triangle of d is reached
-  visit-goes : (i d : ℕ) (darts : List ℕ) (f : Front) → d < 3 * T → (g : Going i (d ∷ darts) f) → tri d ∈ g .reached
-      → (g′ : Going i darts (visit op T d f)) × ((t : ℕ) → t ∈ g .reached → t ∈ g′ .reached)
-  unfolding visit
-  visit-goes i d darts f h g m =
-      let low = tri-below T (op d) (rw (O d h) (S .dart d h)) in
-      elim (ℕ-discrete (f .mark (tri (op d))) 0) [
+    -- the triangle at hand is left, and p and q tell whether those of a and b are yet to be left
+    record Midway (i a b : ℕ) (p q : Bool) (flag queue : ℕ → ℕ) (from to : ℕ) : Type 0 where
+      reached : List ℕ
+      known : Known reached flag
+      count : i + to + gain p + gain q ≡ length reached + from
+      order : from ≤ to
+      short : to + gain p + gain q ≤ length reached
+      outer : 0 ∈ reached
+      linked : (t : ℕ) → t ∈ reached → Linked t
+      one : p ≡ true → Entered reached a
+      two : q ≡ true → Entered reached b
+      entries : (j : ℕ) → from ≤ j → j < to → Entered reached (queue j)
+      closed : (e : ℕ) → e < 3 * m → tri e ∈ reached → (tri (opp e) ∈ reached) ⊎ (((p ≡ true) × Other a e)
+          ⊎ (((q ≡ true) × Other b e) ⊎ ((j : ℕ) × (from ≤ j) × (j < to) × Other (queue j) e)))
+
+    -- all that wait are in the queue
+    pop-goes : (i a b : ℕ) (flag queue : ℕ → ℕ) (from to : ℕ) → Midway i a b false false flag queue from to → Reached i (pop flag queue from to)
+    unfolding pop
+    pop-goes i a b flag queue from to M = record {
+      reached = M .reached;
+      known = M .known;
+      count = omega (arith, M .count);
+      order = omega (arith, M .order);
+      short = omega (arith, M .short);
+      outer = M .outer;
+      linked = M .linked;
+      hand = λ h. M .entries from (omega arith) (omega arith);
+      entries = λ j h l. M .entries j (omega arith) l;
+      closed = λ e l k.
+          elim (M .closed e l k) [
+            | inl x ↦ inl x
+            | inr (inl x) ↦ clash (x .0) refl
+            | inr (inr (inl x)) ↦ clash (x .0) refl
+            | inr (inr (inr x)) ↦
+                elim (ℕ-discrete (x .0) from) [
+                  | yes z ↦ inr (inl (omega (arith, z, x .2), rw z at (x .3)))
+                  | no z ↦ inr (inr (x .0, omega (arith, z, x .1), x .2, x .3))
+                ]
+          ];
+    }
+
+    -- they join it: a where p says so, and b where q does
+    queued-a : (i a b : ℕ) (p q : Bool) (flag queue : ℕ → ℕ) (from to : ℕ) → Midway i a b p q flag queue from to
+        → Midway i a b false q flag (upd to a queue) from (to + gain p)
+    queued-a i a b p q flag queue from to M =
+        let old : (j : ℕ) → j < to → upd to a queue j ≡ queue j = λ j h. upd-other to j a queue (omega arith) in
+        go p M old
+      where
+        go : (p : Bool) → Midway i a b p q flag queue from to → ((j : ℕ) → j < to → upd to a queue j ≡ queue j)
+            → Midway i a b false q flag (upd to a queue) from (to + gain p)
+        go true M old = record {
+          reached = M .reached;
+          known = M .known;
+          count = omega (arith, M .count);
+          order = omega (arith, M .order);
+          short = omega (arith, M .short);
+          outer = M .outer;
+          linked = M .linked;
+          one = λ e. clash e refl;
+          two = M .two;
+          entries = λ j h l.
+              elim (ℕ-discrete j to) [
+                | yes z ↦ rw (upd-at to j a queue z) (M .one refl)
+                | no z ↦ rw (old j (omega (arith, z))) (M .entries j h (omega (arith, z)))
+              ];
+          closed = λ e l k.
+              elim (M .closed e l k) [
+                | inl x ↦ inl x
+                | inr (inl x) ↦ inr (inr (inr (to, M .order, omega arith, rw (upd-same to a queue) (x .1))))
+                | inr (inr (inl x)) ↦ inr (inr (inl x))
+                | inr (inr (inr x)) ↦ inr (inr (inr (x .0, x .1, omega (arith, x .2), rw (old (x .0) (x .2)) (x .3))))
+              ];
+        }
+        go false M old =
+            let z : to + 0 ≡ to = omega arith in
+            rw z record {
+              reached = M .reached;
+              known = M .known;
+              count = omega (arith, M .count);
+              order = M .order;
+              short = omega (arith, M .short);
+              outer = M .outer;
+              linked = M .linked;
+              one = M .one;
+              two = M .two;
+              entries = λ j h l. rw (old j l) (M .entries j h l);
+              closed = λ e l k.
+                  elim (M .closed e l k) [
+                    | inl x ↦ inl x
+                    | inr (inl x) ↦ inr (inl x)
+                    | inr (inr (inl x)) ↦ inr (inr (inl x))
+                    | inr (inr (inr x)) ↦ inr (inr (inr (x .0, x .1, x .2, rw (old (x .0) (x .2)) (x .3))))
+                  ];
+            }
+
+    exchanged : (i a b : ℕ) (p q : Bool) (flag queue : ℕ → ℕ) (from to : ℕ) → Midway i a b p q flag queue from to
+        → Midway i b a q p flag queue from to
+    exchanged i a b p q flag queue from to M = record {
+      reached = M .reached;
+      known = M .known;
+      count = omega (arith, M .count);
+      order = M .order;
+      short = omega (arith, M .short);
+      outer = M .outer;
+      linked = M .linked;
+      one = M .two;
+      two = M .one;
+      entries = M .entries;
+      closed = λ e l k.
+          elim (M .closed e l k) [
+            | inl x ↦ inl x
+            | inr (inl x) ↦ inr (inr (inl x))
+            | inr (inr (inl x)) ↦ inr (inl x)
+            | inr (inr (inr x)) ↦ inr (inr (inr x))
+          ];
+    }
+
+    wide-goes : (i a b : ℕ) (p q : Bool) (flag queue : ℕ → ℕ) (from to : ℕ) → Midway i a b p q flag queue from to
+        → Reached i (wide a b p q flag queue from to)
+    unfolding wide
+    wide-goes i a b p q flag queue from to M =
+        let M₁ = queued-a i a b p q flag queue from to M in
+        let M₂ = exchanged i a b false q flag (upd to a queue) from (to + gain p) M₁ in
+        let M₃ = queued-a i b a q false flag (upd to a queue) from (to + gain p) M₂ in
+        pop-goes i b a flag (upd (to + gain p) b (upd to a queue)) from (to + gain p + gain q) M₃
+
+    -- one of them is at hand, and the queue has all others
+    at-hand-goes : (i a b : ℕ) (flag queue : ℕ → ℕ) (from to : ℕ) → Midway i a b true false flag queue from to
+        → Reached i (record { flag = flag; queue = queue; from = from; to = to; dart = a })
+    at-hand-goes i a b flag queue from to M = record {
+      reached = M .reached;
+      known = M .known;
+      count = omega (arith, M .count);
+      order = omega (arith, M .order);
+      short = omega (arith, M .short);
+      outer = M .outer;
+      linked = M .linked;
+      hand = λ h. M .one refl;
+      entries = M .entries;
+      closed = λ e l k.
+          elim (M .closed e l k) [
+            | inl x ↦ inl x
+            | inr (inl x) ↦ inr (inl (M .order, x .1))
+            | inr (inr (inl x)) ↦ clash (x .0) refl
+            | inr (inr (inr x)) ↦ inr (inr x)
+          ];
+    }
+
+    narrow-goes : (i a b : ℕ) (p q : Bool) (flag queue : ℕ → ℕ) (from to : ℕ) → Midway i a b p q flag queue from to
+        → Reached i (narrow a b p q flag queue from to)
+    unfolding narrow
+    narrow-goes i a b true q flag queue from to M =
+        let M₁ = queued-a i b a q true flag queue from to (exchanged i a b true q flag queue from to M) in
+        at-hand-goes i a b flag (upd to b queue) from (to + gain q) (exchanged i b a false true flag (upd to b queue) from (to + gain q) M₁)
+    narrow-goes i a b false true flag queue from to M =
+        at-hand-goes i b a flag queue from to (exchanged i a b false true flag queue from to M)
+    narrow-goes i a b false false flag queue from to M = pop-goes i a b flag queue from to M
+
+    onward-goes : (i a b : ℕ) (p q : Bool) (flag queue : ℕ → ℕ) (from to : ℕ) → Midway i a b p q flag queue from to
+        → Reached i (onward a b p q flag queue from to)
+    unfolding onward
+    onward-goes i a b p q flag queue from to M =
+        elim (tested (ltb 8 (to - from))) [
+          | inl c ↦ rw c (wide-goes i a b p q flag queue from to M)
+          | inr c ↦ rw c (narrow-goes i a b p q flag queue from to M)
+        ]
+
+  -- one more triangle is reached, where it was not
+  reach-known : (t : ℕ) (reached : List ℕ) (flag : ℕ → ℕ) → t < m → Known reached flag
+      → (new : List ℕ) × Known new (upd t 1 flag) × Grown (eqb (flag t) 0) t reached new
+  reach-known t reached flag h K =
+      elim (ℕ-discrete (flag t) 0) [
         | yes z ↦
-            rw (fresh-true op T d f low z) (
+            let fresh : t ∈ reached → ⊥ = λ k. K .seen t k z in (
+              t ∷ reached,
               record {
-                reached = tri (op d) ∷ g .reached;
-                stack = tri (op d) ∷ g .stack;
-                facts = visit-new i d darts (g .reached) (g .stack) f h m z (g .facts);
+                seen = λ u k.
+                    ⊎-elim
+                    (λ q. rw (upd-at t u 1 flag q) (omega arith))
+                    (λ k. rw (upd-other t u 1 flag (λ q. fresh (Memᴰ·cast (sym q) k))) (K .seen u k))
+                    (List·Memᴰ·cases-cons k);
+                unseen = λ u l k.
+                    elim (ℕ-discrete u t) [
+                      | yes q ↦ List·Memᴰ·head q
+                      | no q ↦ List·Memᴰ·tail (K .unseen u l (rw (upd-other t u 1 flag q) at k))
+                    ];
+                below = λ u k. ⊎-elim (λ q. rw q h) (λ k. K .below u k) (List·Memᴰ·cases-cons k);
+                once = cons fresh (K .once);
               },
-              λ t k. List·Memᴰ·tail k,
+              rw (eq-eqb (flag t) 0 z) record {
+                keeps = λ u k. List·Memᴰ·tail k;
+                has = List·Memᴰ·head refl;
+                only = λ u k. ⊎-elim (λ q. inr (refl, q)) (λ k. inl k) (List·Memᴰ·cases-cons k);
+                long = omega arith;
+              },
             )
-        | no z ↦
-            rw (fresh-false op T d f low z)
-            (record { reached = g .reached; stack = g .stack; facts = visit-old i d darts (g .reached) (g .stack) f h z (g .facts) }, λ t k. k)
+        | no z ↦ (
+          reached,
+          record {
+            seen = λ u k.
+                elim (ℕ-discrete u t) [
+                  | yes q ↦ rw (upd-at t u 1 flag q) (omega arith)
+                  | no q ↦ rw (upd-other t u 1 flag q) (K .seen u k)
+                ];
+            unseen = λ u l k.
+                elim (ℕ-discrete u t) [
+                  | yes q ↦ Memᴰ·cast q (K .unseen t h z)
+                  | no q ↦ K .unseen u l (rw (upd-other t u 1 flag q) at k)
+                ];
+            below = K .below;
+            once = K .once;
+          },
+          rw (ne-eqb (flag t) 0 z) record {
+            keeps = λ u k. k;
+            has = K .unseen t h z;
+            only = λ u k. inl k;
+            long = omega arith;
+          },
+        )
       ]
 
-  -- the top triangle t is taken off
-  pop-goes : (i t : ℕ) (reached stack : List ℕ) (f : Front) → Reached i reached (t ∷ stack) [] f
-      → (f .top ≡ t + 1) × Reached (suc i) reached stack (threes t) (popped f)
-  unfolding popped
-  pop-goes i t reached stack f I =
-      let l = I .links in
-      let e : f .top - 1 ≡ t = omega (arith, l .0) in
-      let b : f .mark (f .top - 1) - 1 ≡ l .1 = rw e (omega (arith, l .2)) in (
-        l .0,
-        record {
-          links = rw b (l .3);
-          seen = I .seen;
-          unseen = I .unseen;
-          below = I .below;
-          once = I .once;
-          count = omega (arith, I .count);
-          stacked = λ u k. I .stacked u (List·Memᴰ·tail k);
-          outer = I .outer;
-          joined = I .joined;
-          closed = λ d h k.
-              ⊎-elim
-              (λ a. ⊎-elim (λ q. inr (inl (in-threes d t q))) (λ a. inl a) (List·Memᴰ·cases-cons a))
-              (⊎-elim (λ a. absurd (List·Memᴰ·not-nil a)) (λ a. inr (inr a)))
-              (I .closed d h k);
-        },
-      )
+module _ (m : ℕ) (turn opp : ℕ → ℕ) (P : Pairs m turn opp) where
+  -- across a side of a linked triangle there is a linked one
+  across : (d : ℕ) → d < 3 * m → Linked m opp (tri d) → Linked m opp (tri (opp d))
+  across d h c = step (opp d) (P .dart d h) refl (rw (P .twice d h) c)
 
-  -- and left by its three sides
-  leave-goes : (i t : ℕ) (reached stack : List ℕ) (f : Front) → Reached i reached (t ∷ stack) [] f → Going (suc i) [] (leave op T f)
-  unfolding leave threes
-  leave-goes i t reached stack f I =
-      let p = pop-goes i t reached stack f I in
-      let e : f .top - 1 ≡ t = omega (arith, p .0) in
-      let on : t ∈ reached = I .stacked t (List·Memᴰ·head refl) in
-      let h : t < T = I .below t on in
-      let here : (k : ℕ) → k < 3 → tri (3 * t + k) ≡ t = λ k l. corner t k l in
-      let z : 3 * t + 0 ≡ 3 * t = omega arith in
-      let g₀ : Going (suc i) ((3 * t) ∷ (3 * t + 1) ∷ (3 * t + 2) ∷ []) (popped f) = record { reached = reached; stack = stack; facts = p .1 } in
-      let v₁ = visit-goes (suc i) (3 * t) ((3 * t + 1) ∷ (3 * t + 2) ∷ []) (popped f) (omega arith) g₀ (rw (← z, here 0 (omega arith)) on) in
-      let v₂ = visit-goes (suc i) (3 * t + 1) ((3 * t + 2) ∷ []) (visit op T (3 * t) (popped f)) (omega arith) (v₁ .0)
-      (rw (here 1 (omega arith)) (v₁ .1 t on)) in
-      let v₃ = visit-goes (suc i) (3 * t + 2) [] (visit op T (3 * t + 1) (visit op T (3 * t) (popped f))) (omega arith) (v₂ .0)
-      (rw (here 2 (omega arith)) (v₂ .1 t (v₁ .1 t on))) in
-      rw (e, lt-ltb t T h) (v₃ .0)
+  -- x leads into the triangle of x, across a side d of a reached one
+  record Across (reached : List ℕ) (d x : ℕ) : Type 0 where
+    side : d < 3 * m
+    from : tri d ∈ reached
+    leads : x ≡ opp d
 
-  -- ---- as many triangles are taken off as there are, and the stack is empty
+  across-below : {reached : List ℕ} {d x : ℕ} → Across reached d x → x < 3 * m
+  across-below {d = d} A = rw (A .leads) (P .dart d (A .side))
 
-  short : (i : ℕ) (reached stack : List ℕ) (f : Front) → Reached i reached stack [] f → i + length stack ≤ T
-  short i reached stack f I =
-      omega (arith, I .count, distinct-within (I .once) (upto T) (λ t m. in-upto T t (I .below t m)), length-upto T)
+  across-linked : {reached : List ℕ} {d x : ℕ} → Across reached d x → ((t : ℕ) → t ∈ reached → Linked m opp t) → Linked m opp (tri x)
+  across-linked {d = d} A L = rw (A .leads) (across d (A .side) (L (tri d) (A .from)))
 
-  record Ended (f : Front) : Type 0 where
-    taken : ℕ
-    reached : List ℕ
-    facts : Reached taken reached [] [] f
+  -- of a triangle that is entered by x, the side of x leads back, and the others are yet to be left by
+  entered-closed : {reached new : List ℕ} {d : ℕ} (x e : ℕ) → Across reached d x → ((t : ℕ) → t ∈ reached → t ∈ new) → tri e ≡ tri x
+      → (tri (opp e) ∈ new) ⊎ Other x e
+  entered-closed {d = d} x e A keeps q =
+      elim (same-tri x e (sym q)) [
+        | inl z ↦
+            let back : opp e ≡ d = ap opp (z ∙ A .leads) ∙ P .twice d (A .side) in
+            inl (rw back (keeps (tri d) (A .from)))
+        | inr z ↦ inr z
+      ]
 
-  explore-ends : (k i : ℕ) (reached stack : List ℕ) (f : Front) → Reached i reached stack [] f → T ≤ i + k → Ended (explore op T k f)
-  unfolding explore
-  explore-ends zero i reached [] f I h = record { taken = i; reached = reached; facts = I }
-  explore-ends zero i reached (t ∷ stack) f I h = absurd (omega (arith, short i reached (t ∷ stack) f I))
-  explore-ends (suc k) i reached [] f I h = rw (eq-eqb (f .top) 0 (I .links)) record { taken = i; reached = reached; facts = I }
-  explore-ends (suc k) i reached (t ∷ stack) f I h =
-      let some : f .top ≢ 0 = λ q. omega (arith, I .links .0) in
-      let g = leave-goes i t reached stack f I in
-      rw (ne-eqb (f .top) 0 some) (explore-ends k (suc i) (g .reached) (g .stack) (leave op T f) (g .facts) (omega arith))
+  -- ---- a turn of the walk
 
-  begin-reached : (mark : ℕ → ℕ) → 0 < T → ((t : ℕ) → t < T → mark t ≡ 0) → Reached 0 (0 ∷ []) (0 ∷ []) [] (begin mark)
-  unfolding begin
-  begin-reached mark h z = record {
-    links = (omega arith, 0, upd-same 0 1 mark ∙ omega arith, refl);
-    seen = λ t m. rw (List·Memᴰ·eq-of-singleton m, upd-same 0 1 mark) (omega arith);
-    unseen = λ t l m.
+  leave-midway : (i : ℕ) (f : Front) → f .from ≤ f .to → Reached m opp i f
+      → let a = turn (f .dart) in let b = turn (prev (f .dart)) in
+      Midway m opp (suc i) a b (isNew a (f .flag)) (isNew b (reach a (f .flag))) (reach b (reach a (f .flag))) (f .queue) (f .from) (f .to)
+  unfolding isNew reach
+  leave-midway i f w R =
+      let d = f .dart in
+      let hand = R .hand w in
+      let A : Across (R .reached) (prev d) (turn d) = record {
+        side = prev-below m d (hand .below);
+        from = rw (tri-prev d) (hand .there);
+        leads = P .turns d (hand .below);
+      } in
+      let B : Across (R .reached) (next d) (turn (prev d)) = record {
+        side = next-below m d (hand .below);
+        from = rw (tri-next d) (hand .there);
+        leads = P .turns (prev d) (prev-below m d (hand .below)) ∙ ap opp (prev-prev d);
+      } in
+      let a = turn d in
+      let b = turn (prev d) in
+      let K₁ = reach-known m (tri a) (R .reached) (f .flag) (tri-below m a (across-below A)) (R .known) in
+      let K₂ = reach-known m (tri b) (K₁ .0) (upd (tri a) 1 (f .flag)) (tri-below m b (across-below B)) (K₁ .1) in
+      let G₁ = K₁ .2 in
+      let G₂ = K₂ .2 in
+      let keeps : (t : ℕ) → t ∈ R .reached → t ∈ K₂ .0 = λ t k. G₂ .keeps t (G₁ .keeps t k) in
+      record {
+        reached = K₂ .0;
+        known = K₂ .1;
+        count = omega (arith, R .count, G₁ .long, G₂ .long);
+        order = w;
+        short = omega (arith, R .short, G₁ .long, G₂ .long);
+        outer = keeps 0 (R .outer);
+        linked = λ t k.
+            elim (G₂ .only t k) [
+              | inr x ↦ rw (x .1) (across-linked B (R .linked))
+              | inl x ↦ elim (G₁ .only t x) [
+                | inr y ↦ rw (y .1) (across-linked A (R .linked))
+                | inl y ↦ R .linked t y
+              ]
+            ];
+        one = λ e. record { below = across-below A; there = G₂ .keeps (tri a) (G₁ .has) };
+        two = λ e. record { below = across-below B; there = G₂ .has };
+        entries = λ j h l. let E = R .entries j h l in record { below = E .below; there = keeps (tri (f .queue j)) (E .there) };
+        closed = λ e l k.
+            elim (G₂ .only (tri e) k) [
+              | inr x ↦ elim (entered-closed b e B keeps (x .1)) [ inl y ↦ inl y | inr y ↦ inr (inr (inl (x .0, y))) ]
+              | inl k₁ ↦ elim (G₁ .only (tri e) k₁) [
+                | inr x ↦ elim (entered-closed a e A keeps (x .1)) [ inl y ↦ inl y | inr y ↦ inr (inl (x .0, y)) ]
+                | inl k₀ ↦ elim (R .closed e l k₀) [
+                  | inl y ↦ inl (keeps (tri (opp e)) y)
+                  | inr (inl (h, inl y)) ↦ inl (Memᴰ·cast (ap tri (ap opp y ∙ sym (B .leads))) (G₂ .has))
+                  | inr (inl (h, inr y)) ↦ inl (Memᴰ·cast (ap tri (ap opp y ∙ sym (A .leads))) (G₂ .keeps (tri a) (G₁ .has)))
+                  | inr (inr y) ↦ inr (inr (inr y))
+                ]
+              ]
+            ];
+      }
+
+  -- the dart at hand is one of 3 m
+  pub at-hand : (i : ℕ) (f : Front) → f .from ≤ f .to → Reached m opp i f → f .dart < 3 * m
+  at-hand i f w R = R .hand w .below
+
+  pub turn-below : (d : ℕ) → d < 3 * m → turn d < 3 * m
+  turn-below d h = rw (P .turns d h) (P .dart (prev d) (prev-below m d h))
+
+  pub leave-goes : (i : ℕ) (f : Front) → f .from ≤ f .to → Reached m opp i f → Reached m opp (suc i) (leave turn f)
+  unfolding leave leaveFor
+  leave-goes i f w R =
+      let a = turn (f .dart) in
+      let b = turn (prev (f .dart)) in
+      onward-goes m opp (suc i) a b (isNew a (f .flag)) (isNew b (reach a (f .flag))) (reach b (reach a (f .flag))) (f .queue) (f .from) (f .to)
+      (leave-midway i f w R)
+
+  -- how far the queue reaches, once the two triangles across are counted
+  pub leave-short : (i : ℕ) (f : Front) → f .from ≤ f .to → Reached m opp i f
+      → let a = turn (f .dart) in let b = turn (prev (f .dart)) in
+      f .to + gain (isNew a (f .flag)) + gain (isNew b (reach a (f .flag))) ≤ m
+  leave-short i f w R = let M = leave-midway i f w R in omega (arith, M .short, few m (M .known))
+
+  -- ---- the start
+
+  outer-known : (flag : ℕ → ℕ) → 0 < m → ((t : ℕ) → t < m → flag t ≡ 0) → Known m (0 ∷ []) (upd 0 1 flag)
+  outer-known flag some zeros = record {
+    seen = λ t k. rw (upd-at 0 t 1 flag (List·Memᴰ·eq-of-singleton k)) (omega arith);
+    unseen = λ t l k.
         elim (ℕ-discrete t 0) [
           | yes q ↦ List·Memᴰ·head q
-          | no q ↦ absurd (m (upd-other 0 t 1 mark q ∙ z t l))
+          | no q ↦ absurd (k (upd-other 0 t 1 flag q ∙ zeros t l))
         ];
-    below = λ t m. omega (arith, List·Memᴰ·eq-of-singleton m);
-    once = cons (λ m. List·Memᴰ·not-nil m) nil;
-    count = omega arith;
-    stacked = λ t m. m;
-    outer = List·Memᴰ·head refl;
-    joined = λ t m. stop (List·Memᴰ·eq-of-singleton m);
-    closed = λ d h m. inl m;
+    below = λ t k. omega (arith, List·Memᴰ·eq-of-singleton k);
+    once = cons (λ k. List·Memᴰ·not-nil k) nil;
   }
 
-  -- what is joined to the outer triangle is reached
-  joined-reached : (f : Front) (E : Ended f) {t : ℕ} → Joined ts t → t ∈ E .reached
-  joined-reached f E (stop e) = Memᴰ·cast e (E .facts .outer)
-  joined-reached f E (step d h e c) =
-      let o = S .dart d h in
-      let back : tri (op (opp ts d)) ≡ tri d = ap tri (O (opp ts d) o ∙ S .twice d h) in
+  start-midway : (flag queue : ℕ → ℕ) → 0 < m → Known m (0 ∷ []) flag
+      → Midway m opp 0 (turn 1) 0 (isNew (turn 1) flag) true (reach (turn 1) flag) queue 0 0
+  unfolding isNew reach prev next
+  start-midway flag queue some K =
+      let y = turn 1 in
+      let first : List ℕ = 0 ∷ [] in
+      let zero-in : 0 ∈ first = List·Memᴰ·head refl in
+      let A : Across first 0 y = record { side = omega arith; from = rw (tri-outer 0 (omega arith)) zero-in; leads = P .turns 1 (omega arith) } in
+      let K₁ = reach-known m (tri y) first flag (tri-below m y (across-below A)) K in
+      let G = K₁ .2 in
+      let outer : 0 ∈ K₁ .0 = G .keeps 0 zero-in in
+      let start : (t : ℕ) → t ∈ first → Linked m opp t = λ t k. stop (List·Memᴰ·eq-of-singleton k) in
+      record {
+        reached = K₁ .0;
+        known = K₁ .1;
+        count = omega (arith, G .long);
+        order = omega arith;
+        short = omega (arith, G .long);
+        outer = outer;
+        linked = λ t k.
+            elim (G .only t k) [
+              | inr x ↦ rw (x .1) (across-linked A start)
+              | inl x ↦ start t x
+            ];
+        one = λ e. record { below = across-below A; there = G .has };
+        two = λ e. record { below = omega arith; there = Memᴰ·cast (tri-outer 0 (omega arith)) outer };
+        entries = λ j h l. absurd (omega arith);
+        closed = λ e l k.
+            elim (G .only (tri e) k) [
+              | inr x ↦ elim (entered-closed y e A (G .keeps) (x .1)) [ inl y ↦ inl y | inr y ↦ inr (inl (x .0, y)) ]
+              | inl x ↦ elim (same-tri 0 e (tri-outer 0 (omega arith) ∙ sym (List·Memᴰ·eq-of-singleton x))) [
+                | inl z ↦ inl (Memᴰ·cast (ap tri (ap opp z ∙ sym (A .leads))) (G .has))
+                | inr z ↦ inr (inr (inl (refl, z)))
+              ]
+            ];
+      }
+
+  pub begin-goes : (flag queue : ℕ → ℕ) → 0 < m → ((t : ℕ) → t < m → flag t ≡ 0) → Reached m opp 0 (begin turn flag queue)
+  unfolding begin startBy
+  begin-goes flag queue some zeros =
+      let first = upd 0 1 flag in
+      narrow-goes m opp 0 (turn 1) 0 (isNew (turn 1) first) true (reach (turn 1) first) queue 0 0
+      (start-midway first queue some (outer-known flag some zeros))
+
+  -- ---- the end
+
+  -- where none is at hand, what is linked to the outer triangle is reached
+  linked-reached : {i : ℕ} {f : Front} (R : Reached m opp i f) → f .to < f .from → {t : ℕ} → Linked m opp t → t ∈ R .reached
+  linked-reached R w (stop e) = Memᴰ·cast e (R .outer)
+  linked-reached R w (step d h e c) =
+      let back : tri (opp (opp d)) ≡ tri d = ap tri (P .twice d h) in
       Memᴰ·cast (sym e)
-      (⊎-elim
-      (λ a. absurd (List·Memᴰ·not-nil a))
-      (⊎-elim (λ a. absurd (List·Memᴰ·not-nil a)) (λ a. rw back at a))
-      (E .facts .closed (opp ts d) o (joined-reached f E c)))
+      (elim (R .closed (opp d) (P .dart d h) (linked-reached R w c)) [
+        | inl x ↦ rw back at x
+        | inr (inl x) ↦ absurd (omega (arith, x .0))
+        | inr (inr x) ↦ absurd (omega (arith, x .1, x .2))
+      ])
 
-  -- A triangle has no mark in the end just where row 8 finds one that the outer triangle does not reach.
-  module _ (mark : ℕ → ℕ) (some : 0 < T) (zeros : (t : ℕ) → t < T → mark t ≡ 0) where
-    abbrev end : Front
-    end = explore op (length ts / 3) (length ts / 3) (begin mark)
+  -- Where none is too soon, a triangle is not linked.
+  explore-true : (k i : ℕ) (f : Front) → i + k ≡ m → Reached m opp i f → explore turn k f ≡ true → ((t : ℕ) → t < m → Linked m opp t) → ⊥
+  unfolding explore
+  explore-true zero i f e R x all = clash x refl
+  explore-true (suc k) i f e R x all =
+      elim (decLe (f .from) (f .to)) [
+        | no w ↦
+            omega (
+              arith,
+              R .count,
+              R .order,
+              length-upto m,
+              distinct-within (distinct-upto m) (R .reached) (λ t k. linked-reached R (omega (arith, w)) (all t (upto-in m k))),
+            )
+        | yes w ↦
+            let R′ = leave-goes i f w R in
+            explore-true k (suc i) (leave turn f) (omega arith) R′ (rw (le-ltb (f .to) (f .from) w) at x) all
+      ]
 
-    ended : Ended end
-    ended = explore-ends T 0 (0 ∷ []) (0 ∷ []) (begin mark) (begin-reached mark some zeros) (omega arith)
+  -- Otherwise as many are reached as there are.
+  explore-false : (k i : ℕ) (f : Front) → i + k ≡ m → Reached m opp i f → explore turn k f ≡ false → (t : ℕ) → t < m → Linked m opp t
+  unfolding explore
+  explore-false zero i f e R x t h =
+      let within : (u : ℕ) → u ∈ R .reached → u ∈ upto m = λ u k. in-upto m u (R .known .below u k) in
+      R .linked t (distinct-full (R .known .once) (upto m) within (omega (arith, R .count, R .order, length-upto m)) t (in-upto m t h))
+  explore-false (suc k) i f e R x t h =
+      elim (decLe (f .from) (f .to)) [
+        | no w ↦ let y : true ≡ false = rw (lt-ltb (f .to) (f .from) (omega (arith, w))) at x in clash refl y
+        | yes w ↦
+            let R′ = leave-goes i f w R in
+            explore-false k (suc i) (leave turn f) (omega arith) R′ (rw (le-ltb (f .to) (f .from) w) at x) t h
+      ]
 
-    pub explore-is : any (λ t. eqb (end .mark t) 0) (upto (length ts / 3)) ≡ row8 ts
-    explore-is =
-        elim (tested (any (λ t. eqb (end .mark t) 0) (upto T))) [
-          | inl e ↦
-              let r = upto-some (λ t. eqb (end .mark t) 0) T e in
-              e ∙ sym (unfalse (row8 ts) (λ q.
-              ended .facts .seen (r .0) (joined-reached end ended (row8-joined ts .0 q (r .0) (r .1))) (eqb-true (end .mark (r .0)) 0 (r .2))))
-          | inr e ↦
-              e ∙ sym (row8-joined ts .1 (λ t h.
-              ended .facts .joined t (ended .facts .unseen t h (eqb-false (end .mark t) 0 (upto-none (λ t. eqb (end .mark t) 0) T e t h)))))
-        ]
+-- The walk ends too soon just where row 8 finds a triangle that the outer one does not reach.
+module _ (ts : List ℕ) (turn : ℕ → ℕ) (P : Pairs (length ts / 3) turn (opp ts)) where
+  pub explore-is : (flag queue : ℕ → ℕ) → 0 < length ts / 3 → ((t : ℕ) → t < length ts / 3 → flag t ≡ 0)
+      → explore turn (length ts / 3) (begin turn flag queue) ≡ row8 ts
+  explore-is flag queue some zeros =
+      let T = length ts / 3 in
+      let R = begin-goes T turn (opp ts) P flag queue some zeros in
+      let f = begin turn flag queue in
+      elim (tested (explore turn T f)) [
+        | inl e ↦ e ∙ sym (unfalse (row8 ts) (λ q. explore-true T turn (opp ts) P T 0 f (omega arith) R e (row8-joined ts .0 q)))
+        | inr e ↦ e ∙ sym (row8-joined ts .1 (explore-false T turn (opp ts) P T 0 f (omega arith) R e))
+      ]

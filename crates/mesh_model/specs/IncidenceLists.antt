@@ -1,7 +1,6 @@
 -- The darts that leave each vertex, as linked lists in the tables. Assumes nothing.
--- `head v` is the first of them, `count v` their number. The link of dart d stands in `op`, at the place of d's previous dart, and names the previous
--- dart of the one after d: so a walk goes along darts that arrive at v, from word to word. That place is free: the opposite of `prev d`, a dart that
--- arrives at the origin of d, is found while the list of that origin is walked, and replaces the link.
+-- `first v` is the first of them, `number v` their number, and `turn d` is the link of dart d. That place is free: the next dart round the origin of d
+-- is found while the list of that origin is walked, and replaces the link.
 use Prim.Native.Nat.{ℕ, zero, suc, _+_, _-_, _≤_, _<_}
 use mathlib.Core.Path.{_≡_, refl, sym, ap, _∙_}
 use mathlib.Core.Logic.{_≢_}
@@ -12,153 +11,148 @@ use lib.Dec.{eqb}
 use lib.ListN.{length}
 use borrow.Author.Tests.{eq-eqb, ne-eqb}
 use Rattle.definitions.specs.Lists.{range, upto, filter}
-use Rattle.definitions.specs.Mesh.{next, prev, org, darts, outgoing}
+use Rattle.definitions.specs.Mesh.{org, darts, outgoing}
 use Rattle.laws.specs.Lists.{_∈_, filter-in, range-in}
-use Rattle.theory_sphere.specs.Darts.{next-prev}
-use Rattle.scratch_tables.specs.Tables.{Tables, upd, upd-same, upd-at, upd-other, setOp, setHead, setCount, withOp, blank}
+use Rattle.scratch_tables.specs.Tables.{Tables, upd, upd-same, upd-other}
+use Rattle.scratch_tables.specs.Fields.{field0, field1}
+use Rattle.mesh_tables.specs.Incidence.{Incidence, incidenceOf, setDart, setList}
 
 -- k darts: d, and those that the links lead to
 unfoldable pub chain : (ℕ → ℕ) → ℕ → ℕ → List ℕ
-chain op zero d = []
-chain op (suc k) d = d ∷ chain op k (next (op (prev d)))
+chain turn zero d = []
+chain turn (suc k) d = d ∷ chain turn k (turn d)
 
-pub length-chain : (op : ℕ → ℕ) (k d : ℕ) → length (chain op k d) ≡ k
+pub length-chain : (turn : ℕ → ℕ) (k d : ℕ) → length (chain turn k d) ≡ k
 unfolding chain
-length-chain op zero d = refl
-length-chain op (suc k) d = ap suc (length-chain op k (next (op (prev d))))
-
-pub prev-once : (d e : ℕ) → prev d ≡ prev e → d ≡ e
-unfolding prev
-prev-once d e q = omega arith
+length-chain turn zero d = refl
+length-chain turn (suc k) d = ap suc (length-chain turn k (turn d))
 
 -- a store beside the links of a list does not change it
-pub chain-other : (op : ℕ → ℕ) (e x k h : ℕ) → ((d : ℕ) → d ∈ chain op k h → prev d ≢ e) → chain (upd e x op) k h ≡ chain op k h
+pub chain-other : (turn : ℕ → ℕ) (e x k h : ℕ) → ((d : ℕ) → d ∈ chain turn k h → d ≢ e) → chain (upd e x turn) k h ≡ chain turn k h
 unfolding chain
-chain-other op e x zero h f = refl
-chain-other op e x (suc k) h f =
-    rw (upd-other e (prev h) x op (f h (List·Memᴰ·head refl)))
-    (ap (λ (zs : List ℕ). h ∷ zs) (chain-other op e x k (next (op (prev h))) (λ d m. f d (List·Memᴰ·tail m))))
+chain-other turn e x zero h f = refl
+chain-other turn e x (suc k) h f =
+    rw (upd-other e h x turn (f h (List·Memᴰ·head refl)))
+    (ap (λ (zs : List ℕ). h ∷ zs) (chain-other turn e x k (turn h) (λ d m. f d (List·Memᴰ·tail m))))
 
 -- nor does another function with the same links
-pub chain-same : (op op′ : ℕ → ℕ) (k h : ℕ) → ((d : ℕ) → d ∈ chain op k h → op′ (prev d) ≡ op (prev d)) →
-    chain op′ k h ≡ chain op k h
+pub chain-same : (turn turn′ : ℕ → ℕ) (k h : ℕ) → ((d : ℕ) → d ∈ chain turn k h → turn′ d ≡ turn d) → chain turn′ k h ≡ chain turn k h
 unfolding chain
-chain-same op op′ zero h f = refl
-chain-same op op′ (suc k) h f =
+chain-same turn turn′ zero h f = refl
+chain-same turn turn′ (suc k) h f =
     rw (f h (List·Memᴰ·head refl))
-    (ap (λ (zs : List ℕ). h ∷ zs) (chain-same op op′ k (next (op (prev h))) (λ d m. f d (List·Memᴰ·tail m))))
+    (ap (λ (zs : List ℕ). h ∷ zs) (chain-same turn turn′ k (turn h) (λ d m. f d (List·Memᴰ·tail m))))
 
-pub chain-head : (op : ℕ → ℕ) (k d : ℕ) → 0 < k → d ∈ chain op k d
+pub chain-head : (turn : ℕ → ℕ) (k d : ℕ) → 0 < k → d ∈ chain turn k d
 unfolding chain
-chain-head op zero d h = absurd (omega arith)
-chain-head op (suc k) d h = List·Memᴰ·head refl
+chain-head turn zero d h = absurd (omega arith)
+chain-head turn (suc k) d h = List·Memᴰ·head refl
 
 -- a dart put in front of a list
-pub chain-front : (op : ℕ → ℕ) (e h k d : ℕ) → prev d ≡ e → chain (upd e (prev h) op) (suc k) d ≡ d ∷ chain (upd e (prev h) op) k h
+chain-front : (turn : ℕ → ℕ) (h k d : ℕ) → chain (upd d h turn) (suc k) d ≡ d ∷ chain (upd d h turn) k h
 unfolding chain
-chain-front op e h k d q = rw (upd-at e (prev d) (prev h) op q, next-prev h)
+chain-front turn h k d = rw (upd-same d h turn)
+
+-- the darts of vertex v, as its list has them
+abbrev pub listAt : Incidence → ℕ → List ℕ
+listAt i v = chain (i .turn) (i .number v) (i .first v)
+
+-- No list has a dart, and there is no mark. What is stored for the darts is any words.
+pub record Empty (i : Incidence) : Type 0 where
+  pub first : (v : ℕ) → i .first v ≡ 0
+  pub number : (v : ℕ) → i .number v ≡ 0
+  pub mark : (w : ℕ) → i .mark w ≡ 0
+
+-- zeros in the words of the vertices and in those of the marks
+pub zeros-empty : (t : Tables) → ((v : ℕ) → t .head v ≡ 0) → ((w : ℕ) → t .count w ≡ 0) → Empty (incidenceOf t)
+unfolding incidenceOf field0 field1
+zeros-empty t h m = record { first = λ v. rw (h v); number = λ v. rw (h v); mark = m }
 
 module _ (ts : List ℕ) where
+  -- the words have the origins of the mesh
+  abbrev pub Origins : (ℕ → ℕ) → Type 0
+  Origins origin = (d : ℕ) → d < length ts → origin d ≡ org ts d
+
   -- dart d goes to the front of its origin's list
-  unfoldable pub push : ℕ → Tables → Tables
-  push d t = setCount (org ts d) (t .count (org ts d) + 1) (setHead (org ts d) d (setOp (prev d) (prev (t .head (org ts d))) t))
+  unfoldable pub push : ℕ → Incidence → Incidence
+  push d i = setList (org ts d) d (i .number (org ts d) + 1) (setDart d (i .first (org ts d)) (org ts d) i)
 
   -- the darts below k do, the last of them first
-  unfoldable pub fill : ℕ → Tables → Tables
-  fill zero t = t
-  fill (suc k) t = fill k (push k t)
+  unfoldable pub fill : ℕ → Incidence → Incidence
+  fill zero i = i
+  fill (suc k) i = fill k (push k i)
 
   -- the lists hold the darts from d on
-  abbrev pub Holding : ℕ → Tables → Type 0
-  Holding d t = (v : ℕ) → chain (t .op) (t .count v) (t .head v) ≡ filter (λ e. eqb (org ts e) v) (range d (length ts - d))
+  abbrev Holding : ℕ → Incidence → Type 0
+  Holding d i = (v : ℕ) → listAt i v ≡ filter (λ e. eqb (org ts e) v) (range d (length ts - d))
 
-  push-holds : (d : ℕ) (t : Tables) → d < length ts → Holding (suc d) t → Holding d (push d t)
-  unfolding push setOp setHead setCount filter range
-  push-holds d t h I v =
+  push-holds : (d : ℕ) (i : Incidence) → d < length ts → Holding (suc d) i → Holding d (push d i)
+  unfolding push setDart setList filter range
+  push-holds d i h I v =
       let more : length ts - d ≡ suc (length ts - suc d) = omega arith in
       let later = range (suc d) (length ts - suc d) in
-      let beside : (x : ℕ) → chain (upd (prev d) x (t .op)) (t .count v) (t .head v) ≡ filter (λ e. eqb (org ts e) v) later = λ x.
-      chain-other (t .op) (prev d) x (t .count v) (t .head v) (λ e m q.
+      let beside : (x : ℕ) → chain (upd d x (i .turn)) (i .number v) (i .first v) ≡ filter (λ e. eqb (org ts e) v) later = λ x.
+      chain-other (i .turn) d x (i .number v) (i .first v) (λ e m q.
       let r = range-in (suc d) (length ts - suc d) (filter-in (λ e. eqb (org ts e) v) later (rw (I v) at m) .0) .0 in
-      let s = prev-once e d q in
       absurd (omega arith)) ∙ I v in
       elim (ℕ-discrete (org ts d) v) [
         | yes e ↦
-            let one : t .count v + 1 ≡ suc (t .count v) = omega arith in
-            rw (e, more, upd-same v (t .count v + 1) (t .count), upd-same v d (t .head), eq-eqb (org ts d) v e, one)
-            (chain-front (t .op) (prev d) (t .head v) (t .count v) d refl ∙ ap (λ (zs : List ℕ). d ∷ zs) (beside (prev (t .head v))))
+            let one : i .number v + 1 ≡ suc (i .number v) = omega arith in
+            rw (e, more, upd-same v (i .number v + 1) (i .number), upd-same v d (i .first), eq-eqb (org ts d) v e, one)
+            (chain-front (i .turn) (i .first v) (i .number v) d ∙ ap (λ (zs : List ℕ). d ∷ zs) (beside (i .first v)))
         | no e ↦
             let f : v ≢ org ts d = λ q. e (sym q) in
-            rw (more, upd-other (org ts d) v (t .count (org ts d) + 1) (t .count) f, upd-other (org ts d) v d (t .head) f, ne-eqb (org ts d) v e)
-            (beside (prev (t .head (org ts d))))
+            rw (more, upd-other (org ts d) v (i .number (org ts d) + 1) (i .number) f, upd-other (org ts d) v d (i .first) f, ne-eqb (org ts d) v e)
+            (beside (i .first (org ts d)))
       ]
 
-  fill-holds : (k : ℕ) (t : Tables) → k ≤ length ts → Holding k t → Holding 0 (fill k t)
+  fill-holds : (k : ℕ) (i : Incidence) → k ≤ length ts → Holding k i → Holding 0 (fill k i)
   unfolding fill
-  fill-holds zero t h I = I
-  fill-holds (suc k) t h I = fill-holds k (push k t) (omega arith) (push-holds k t h I)
+  fill-holds zero i h I = I
+  fill-holds (suc k) i h I = fill-holds k (push k i) (omega arith) (push-holds k i h I)
 
   -- the lists hold the darts that leave each vertex, in their order
-  abbrev pub Bucketed : Tables → Type 0
-  Bucketed t = (v : ℕ) → chain (t .op) (t .count v) (t .head v) ≡ outgoing ts v
+  abbrev pub Bucketed : Incidence → Type 0
+  Bucketed i = (v : ℕ) → listAt i v ≡ outgoing ts v
 
-  pub fill-buckets : (op : ℕ → ℕ) → Bucketed (fill (length ts) (withOp op blank))
-  unfolding outgoing darts upto withOp blank chain filter range
-  fill-buckets op v =
+  pub fill-buckets : (i : Incidence) → Empty i → Bucketed (fill (length ts) i)
+  unfolding outgoing darts upto chain filter range
+  fill-buckets i E v =
       let e : length ts - 0 ≡ length ts = omega arith in
-      fill-holds (length ts) (withOp op blank) (omega arith) (λ v. let e : length ts - length ts ≡ 0 = omega arith in rw e) v
+      fill-holds (length ts) i (omega arith) (λ v. let e : length ts - length ts ≡ 0 = omega arith in rw (e, E .number v)) v
       ∙ ap (λ (k : ℕ). filter (λ d. eqb (org ts d) v) (range 0 k)) e
 
-  -- while the lists are filled, a count stays below the number of darts
-  abbrev pub Counted : ℕ → Tables → Type 0
-  Counted d t = (v : ℕ) → t .count v + d ≤ length ts
+  -- while the lists are filled, a number stays below that of the darts
+  abbrev pub Counted : ℕ → Incidence → Type 0
+  Counted d i = (v : ℕ) → i .number v + d ≤ length ts
 
-  pub push-counts : (d : ℕ) (t : Tables) → Counted (suc d) t → Counted d (push d t)
-  unfolding push setOp setHead setCount
-  push-counts d t I v =
+  pub push-counts : (d : ℕ) (i : Incidence) → Counted (suc d) i → Counted d (push d i)
+  unfolding push setDart setList
+  push-counts d i I v =
       elim (ℕ-discrete v (org ts d)) [
-        | yes e ↦ rw (e, upd-same (org ts d) (t .count (org ts d) + 1) (t .count)) (omega (arith, I (org ts d)))
-        | no e ↦ rw (upd-other (org ts d) v (t .count (org ts d) + 1) (t .count) e) (omega (arith, I v))
+        | yes e ↦ rw (e, upd-same (org ts d) (i .number (org ts d) + 1) (i .number)) (omega (arith, I (org ts d)))
+        | no e ↦ rw (upd-other (org ts d) v (i .number (org ts d) + 1) (i .number) e) (omega (arith, I v))
       ]
 
-  pub blank-counts : (op : ℕ → ℕ) → Counted (length ts) (withOp op blank)
-  unfolding withOp blank
-  blank-counts op v = omega arith
+  pub empty-counts : (i : Incidence) → Empty i → Counted (length ts) i
+  empty-counts i E v = omega (arith, E .number v)
 
-  -- and a head is a dart
-  abbrev pub Headed : Tables → Type 0
-  Headed t = (v : ℕ) → t .head v ≤ length ts
+  -- marks stay
+  fill-mark : (k : ℕ) (i : Incidence) → fill k i .mark ≡ i .mark
+  unfolding fill push setDart setList
+  fill-mark zero i = refl
+  fill-mark (suc k) i = fill-mark k (push k i)
 
-  pub push-heads : (d : ℕ) (t : Tables) → d < length ts → Headed t → Headed (push d t)
-  unfolding push setOp setHead setCount
-  push-heads d t h I v =
-      elim (ℕ-discrete v (org ts d)) [
-        | yes e ↦ rw (upd-at (org ts d) v d (t .head) e) (omega arith)
-        | no e ↦ rw (upd-other (org ts d) v d (t .head) e) (I v)
-      ]
-
-  pub fill-heads : (k : ℕ) (t : Tables) → k ≤ length ts → Headed t → Headed (fill k t)
-  unfolding fill
-  fill-heads zero t h I = I
-  fill-heads (suc k) t h I = fill-heads k (push k t) (omega arith) (push-heads k t h I)
-
-  pub blank-heads : (op : ℕ → ℕ) → Headed (withOp op blank)
-  unfolding withOp blank
-  blank-heads op v = omega arith
-
-  -- only these tables change, and all marks stay
-  pub fill-mark : (k : ℕ) (t : Tables) → fill k t .mark ≡ t .mark
-  unfolding fill push setOp setHead setCount
-  fill-mark zero t = refl
-  fill-mark (suc k) t = fill-mark k (push k t)
+  pub fill-unmarked : (i : Incidence) → Empty i → (w : ℕ) → fill (length ts) i .mark w ≡ 0
+  fill-unmarked i E w = ap (λ (f : ℕ → ℕ). f w) (fill-mark (length ts) i) ∙ E .mark w
 
   -- What stays of the lists when the links are gone: each vertex's number of darts, and a dart of it.
-  pub record Rooted (t : Tables) : Type 0 where
-    pub number : (v : ℕ) → t .count v ≡ length (outgoing ts v)
-    pub dart : (v : ℕ) → 0 < t .count v → t .head v ∈ outgoing ts v
+  pub record Rooted (i : Incidence) : Type 0 where
+    pub number : (v : ℕ) → i .number v ≡ length (outgoing ts v)
+    pub dart : (v : ℕ) → 0 < i .number v → i .first v ∈ outgoing ts v
 
-  pub bucketed-rooted : (t : Tables) → Bucketed t → Rooted t
-  bucketed-rooted t B = record {
-    number = λ v. sym (length-chain (t .op) (t .count v) (t .head v)) ∙ ap length (B v);
-    dart = λ v h. rw (B v) at (chain-head (t .op) (t .count v) (t .head v) h);
+  pub bucketed-rooted : (i : Incidence) → Bucketed i → Rooted i
+  bucketed-rooted i B = record {
+    number = λ v. sym (length-chain (i .turn) (i .number v) (i .first v)) ∙ ap length (B v);
+    dart = λ v h. rw (B v) at (chain-head (i .turn) (i .number v) (i .first v) h);
   }

@@ -1,474 +1,647 @@
--- What is known at each iteration of the loops of rows 5 and 6: what is left to do from here gives what the whole gives. Assumes nothing.
-use Prim.Native.Nat.{ℕ, suc, _+_, _-_, _*_, _/_, _%_, _≤_, _<_, _^_}
+-- What is known at each iteration of the loops that fill the lists and of rows 5 and 6: what is left to do from here gives what the whole gives.
+-- Assumes nothing.
+use Prim.Native.Nat.{ℕ, suc, _+_, _-_, _*_, _/_, _%_, _≤_, _<_}
 use mathlib.Core.Path.{_≡_, refl, sym, ap, _∙_}
-use mathlib.Core.Bool.{Bool, true, false, cond, _&&_}
+use mathlib.Core.Bool.{Bool, true, false, cond}
 use mathlib.Core.List.{List, _∷_}
 use native.Mathlib.Omega.{arith}
-use lib.Dec.{ltb}
 use lib.ListN.{length}
-use borrow.Author.Tests.{lt-ltb, le-ltb, eq-eqb, ne-eqb}
+use borrow.Author.Tests.{eq-eqb, ne-eqb}
 use lib.IntN.{ℤ}
-use Rattle.definitions.specs.Mesh.{next, prev, org, tip}
-use Rattle.theory_sphere.specs.Darts.{next-prev, prev-next}
-use Rattle.scratch_tables.specs.Tables.{only-mark, Tables, tablesOf, upd, setOp, setMark, withOp, withMark}
-use Rattle.mesh_model.specs.IncidenceLists.{chain, push, fill, Counted, push-counts, Headed, push-heads}
-use Rattle.mesh_model.specs.DuplicateSides.{Scan, noted, isOf, clashes, scan, scanAll, scan-clash, scan-on}
-use Rattle.mesh_model.specs.Opposites.{Join, Round, facing, meets, join, joinAll}
+use Rattle.definitions.specs.Mesh.{next, prev, org, row4}
+use Rattle.laws.specs.Lists.{clash}
+use Rattle.scratch_tables.specs.Tables.{upd, dartIn}
+use Rattle.mesh_tables.specs.Incidence.{Incidence, incidence, setTurn, setMark, withTurn, withMark}
+use Rattle.mesh_model.specs.IncidenceLists.{chain, listAt, push, fill, Counted, empty-counts, push-counts}
+use Rattle.mesh_model.specs.Bounds.{Bounded, bounded-mark, bounded-turn}
+use Rattle.mesh_model.specs.DuplicateSides.{Scan, noted, noted-dart, isOf, clashes, scan, scanAll, scan-clash, scan-on}
+use Rattle.mesh_model.specs.Opposites.{Join, Round, facing, meets, join, scanned, joined, joinAll}
+use Rattle.mesh_model.specs.RingWalk.{oneRing, ringRow}
+use Rattle.mesh_rings.specs.RingLoops.{Rounding}
+use Rattle.mesh_sides.specs.RepeatedVertex.{repeatedAt, NoLoops, loop-found, loops-none, no-loops}
+use Rattle.mesh_sides.specs.Room.{Pushing, PushingThree, Filling, Beside, AtVertex, Ready, beside-next, beside-prev}
 
--- ---- lists are filled from the last dart down to d
+-- ---- lists are filled from the last triangle down to that of dart d
+
+-- what the three darts from d on ask, and what they leave: nothing is said where a vertex is twice in their triangle
+pub record ThreePushed (ts : List ℕ) (s s′ : List ℤ) (d : ℕ) (r : Bool) : Type 0 where
+  pub found : r ≡ repeatedAt ts d
+  pub same : r ≡ false → incidence s′ ≡ push ts d (push ts (d + 1) (push ts (d + 2) (incidence s)))
+
+module _ (ts : List ℕ) (s : List ℤ) (d : ℕ) (P : PushingThree ts s d) where
+  pub three-repeated : (r : Bool) → r ≡ repeatedAt ts d → r ≡ true → ThreePushed ts s s d true
+  three-repeated r e t = record { found = sym t ∙ e; same = λ q. clash refl q }
+
+  room : (s′ : List ℤ) (e : ℕ) → e < 3 → length s′ ≡ length s → Counted ts (d + e + 1) (incidence s′) → Pushing ts s′ (d + e)
+  room s′ e h l C = record {
+    dart = omega (arith, P .three);
+    place = omega (arith, P .three, P .darts, l);
+    small = omega (arith, P .three, P .few);
+    vertex = rw l (P .vertex (d + e));
+    number = omega (arith, C (org ts (d + e)), P .few);
+  }
+
+  pub pushing-last : Pushing ts s (d + 2)
+  pushing-last = let z : d + 3 ≡ d + 2 + 1 = omega arith in room s 2 (omega arith) refl (rw z at (P .count))
+
+  module _ (s₁ : List ℤ) (l₁ : length s₁ ≡ length s) (e₁ : incidence s₁ ≡ push ts (d + 2) (incidence s)) where
+    counted₁ : Counted ts (d + 2) (incidence s₁)
+    counted₁ = let z : d + 3 ≡ suc (d + 2) = omega arith in rw e₁ (push-counts ts (d + 2) (incidence s) (rw z at (P .count)))
+
+    pub pushing-middle : Pushing ts s₁ (d + 1)
+    pushing-middle = let z : d + 2 ≡ d + 1 + 1 = omega arith in room s₁ 1 (omega arith) l₁ (rw z at counted₁)
+
+    module _ (s₂ : List ℤ) (l₂ : length s₂ ≡ length s₁) (e₂ : incidence s₂ ≡ push ts (d + 1) (incidence s₁)) where
+      pub pushing-first : Pushing ts s₂ d
+      pushing-first =
+          let z : d + 2 ≡ suc (d + 1) = omega arith in
+          let y : d + 0 ≡ d = omega arith in
+          let w : d + 1 ≡ d + 0 + 1 = omega arith in
+          let C : Counted ts (d + 1) (incidence s₂) = rw e₂ (push-counts ts (d + 1) (incidence s₁) (rw z at counted₁)) in
+          rw y at (room s₂ 0 (omega arith) (l₂ ∙ l₁) (rw w at C))
+
+      pub three-pushed : (r : Bool) → r ≡ repeatedAt ts d → r ≡ false → (s₃ : List ℤ) → incidence s₃ ≡ push ts d (incidence s₂) → ThreePushed ts s s₃ d false
+      three-pushed r e f s₃ e₃ = record { found = sym f ∙ e; same = λ _. e₃ ∙ ap (push ts d) (e₂ ∙ ap (push ts (d + 1)) e₁) }
+
+-- three darts at once
+abbrev three : List ℕ → ℕ → Incidence → Incidence
+three ts d i = push ts d (push ts (d + 1) (push ts (d + 2) i))
+
+three-fill : (ts : List ℕ) (d : ℕ) (i : Incidence) → fill ts (d + 3) i ≡ fill ts d (three ts d i)
+unfolding fill
+three-fill ts d i =
+    let a : d + 3 ≡ suc (suc (suc d)) = omega arith in
+    let b : d + 2 ≡ suc (suc d) = omega arith in
+    let c : d + 1 ≡ suc d = omega arith in
+    rw (a, b, c)
+
+three-counts : (ts : List ℕ) (d : ℕ) (i : Incidence) → Counted ts (d + 3) i → Counted ts d (three ts d i)
+three-counts ts d i C =
+    let a : d + 3 ≡ suc (suc (suc d)) = omega arith in
+    let b : d + 2 ≡ suc (suc d) = omega arith in
+    let c : d + 1 ≡ suc d = omega arith in
+    rw (b, c) (push-counts ts d (push ts (suc d) (push ts (suc (suc d)) i))
+    (push-counts ts (suc d) (push ts (suc (suc d)) i) (push-counts ts (suc (suc d)) i (rw a at C))))
 
 pub record Filled (ts : List ℕ) (s₀ s : List ℤ) (d : ℕ) : Type 0 where
   pub long : length s ≡ length s₀
+  pub first : d % 3 ≡ 0
   pub low : d ≤ length ts
-  pub count : Counted ts d (tablesOf s)
-  pub heads : Headed ts (tablesOf s)
-  pub rest : fill ts d (tablesOf s) ≡ fill ts (length ts) (tablesOf s₀)
+  pub count : Counted ts d (incidence s)
+  pub clean : NoLoops ts d
+  pub rest : fill ts d (incidence s) ≡ fill ts (length ts) (incidence s₀)
 
-pub filled-next : (ts : List ℕ) (s₀ s s′ : List ℤ) (d : ℕ) → 0 < d → length s′ ≡ length s → tablesOf s′ ≡ push ts (d - 1) (tablesOf s)
-    → Filled ts s₀ s d → Filled ts s₀ s′ (d - 1)
+-- row 4, and the tables where it finds nothing
+pub record AllFilled (ts : List ℕ) (s s′ : List ℤ) (r : Bool) : Type 0 where
+  pub found : r ≡ row4 ts
+  pub same : r ≡ false → incidence s′ ≡ fill ts (length ts) (incidence s)
+
+pub filled-start : (ts : List ℕ) (s : List ℤ) → Filling ts s → Filled ts s s (length ts)
+filled-start ts s F = record {
+  long = refl;
+  first = F .whole;
+  low = omega arith;
+  count = empty-counts ts (incidence s) (F .empty);
+  clean = λ e h l. absurd (omega arith);
+  rest = refl;
+}
+
+module _ (ts : List ℕ) (s₀ s : List ℤ) (d : ℕ) (h : 0 < d) (I : Filled ts s₀ s d) where
+  pub filled-pushing : Filling ts s₀ → PushingThree ts s (d - 3)
+  filled-pushing F =
+      let z : d ≡ d - 3 + 3 = omega (arith, I .first) in
+      record {
+        first = omega (arith, I .first);
+        three = omega (arith, I .first, I .low);
+        few = F .few;
+        darts = rw (I .long) (F .darts);
+        vertex = λ e. rw (I .long) (F .vertex e);
+        count = rw z at (I .count);
+      }
+
+  module _ (s′ : List ℤ) (r : Bool) (P : ThreePushed ts s s′ (d - 3) r) where
+    low-three : d - 3 + 2 < length ts
+    low-three = omega (arith, I .first, I .low)
+
+    pub filled-twice : r ≡ true → (s″ : List ℤ) → AllFilled ts s₀ s″ true
+    filled-twice e s″ = record { found = sym (loop-found ts (d - 3) low-three (sym (P .found) ∙ e)); same = λ q. clash refl q }
+
+    pub filled-next : r ≡ false → length s′ ≡ length s → Filled ts s₀ s′ (d - 3)
+    filled-next e l =
+        let z : d ≡ d - 3 + 3 = omega (arith, I .first) in
+        record {
+          long = l ∙ I .long;
+          first = omega (arith, I .first);
+          low = omega (arith, I .low);
+          count = rw (P .same e) (three-counts ts (d - 3) (incidence s) (rw z at (I .count)));
+          clean = loops-none ts (d - 3) low-three (sym (P .found) ∙ e) (rw z at (I .clean));
+          rest = rw (P .same e) (sym (three-fill ts (d - 3) (incidence s)) ∙ (rw z at (I .rest)));
+        }
+
+pub filled-all : (ts : List ℕ) (s₀ s : List ℤ) (d : ℕ) → d ≤ 0 → Filled ts s₀ s d → AllFilled ts s₀ s false
 unfolding fill
-filled-next ts s₀ s s′ d h l e I =
-    let z : d ≡ suc (d - 1) = omega arith in
-    record {
-      long = l ∙ I .long;
-      low = omega (arith, I .low);
-      count = rw e (push-counts ts (d - 1) (tablesOf s) (rw z at (I .count)));
-      heads = rw e (push-heads ts (d - 1) (tablesOf s) (omega (arith, I .low)) (I .heads));
-      rest = rw e (rw z at (I .rest));
-    }
+filled-all ts s₀ s d h I =
+    let z : d ≡ 0 = omega arith in
+    record { found = sym (no-loops ts (rw z at (I .clean))); same = λ _. rw z at (I .rest) }
 
 -- ---- tables that differ in one table only
 
-pub only-op : (t t₀ : Tables) (f : ℕ → ℕ) → t ≡ withOp f t₀ → t ≡ withOp (t .op) t₀
-unfolding withOp
-only-op t t₀ f e = e ∙ ap (λ (g : ℕ → ℕ). withOp g t₀) (sym (ap (λ (t : Tables). t .op) e))
-
--- heads stay
-pub mark-heads : (s₀ s : List ℤ) (f : ℕ → ℕ) → tablesOf s ≡ withMark f (tablesOf s₀) → tablesOf s .head ≡ tablesOf s₀ .head
+only-mark : (i i₀ : Incidence) (f : ℕ → ℕ) → i ≡ withMark f i₀ → i ≡ withMark (i .mark) i₀
 unfolding withMark
-mark-heads s₀ s f e = ap (λ (t : Tables). t .head) e
+only-mark i i₀ f e = e ∙ ap (λ (g : ℕ → ℕ). withMark g i₀) (sym (ap (λ (i : Incidence). i .mark) e))
 
-pub op-heads : (s₀ s : List ℤ) (f : ℕ → ℕ) → tablesOf s ≡ withOp f (tablesOf s₀) → tablesOf s .head ≡ tablesOf s₀ .head
-unfolding withOp
-op-heads s₀ s f e = ap (λ (t : Tables). t .head) e
+only-turn : (i i₀ : Incidence) (f : ℕ → ℕ) → i ≡ withTurn f i₀ → i ≡ withTurn (i .turn) i₀
+unfolding withTurn
+only-turn i i₀ f e = e ∙ ap (λ (g : ℕ → ℕ). withTurn g i₀) (sym (ap (λ (i : Incidence). i .turn) e))
 
-pub both-heads : (s₀ s : List ℤ) (f g : ℕ → ℕ) → tablesOf s ≡ withOp f (withMark g (tablesOf s₀)) → tablesOf s .head ≡ tablesOf s₀ .head
-unfolding withOp withMark
-both-heads s₀ s f g e = ap (λ (t : Tables). t .head) e
+-- what is in range stays so
+abbrev pub Keeps : List ℤ → List ℤ → Type 0
+Keeps s s′ = (T : ℕ) → Bounded T (length s) (incidence s) → Bounded T (length s) (incidence s′)
 
 -- ---- the darts that leave a vertex leave their marks
 
--- The dart after e leads where the dart before e comes from.
-pub tip-next : (ts : List ℕ) (e : ℕ) → org ts (prev e) ≡ tip ts (next e)
-unfolding tip next prev
-tip-next ts e = let z : 3 * (e / 3) + (e % 3 + 2) % 3 ≡ 3 * ((3 * (e / 3) + (e % 3 + 1) % 3) / 3) + ((3 * (e / 3) + (e % 3 + 1) % 3) % 3 + 1) % 3 =
-    omega arith in ap (org ts) z
+-- dart e of vertex v leaves its mark, unless there is a mark of v where it leads
+pub record Left (s s′ : List ℤ) (v e : ℕ) (r : Bool) : Type 0 where
+  pub found : r ≡ clashes (incidence s .origin) v (incidence s .mark) e
+  pub same : incidence s′ ≡ cond r (incidence s) (setMark (incidence s .origin (next e)) (noted v e) (incidence s))
 
--- dart d of vertex v leaves its mark, unless there is a mark of v where it leads
-pub record Left (ts : List ℕ) (s s′ : List ℤ) (v d : ℕ) (r : Bool) : Type 0 where
-  pub found : r ≡ clashes ts v (tablesOf s .mark) d
-  pub same : tablesOf s′ ≡ cond r (tablesOf s) (setMark (2 * tip ts d) (noted v d) (tablesOf s))
+module _ (s : List ℤ) (v e d w m : ℕ) (after : d ≡ next e) (at : w ≡ incidence s .origin d) (is : m ≡ incidence s .mark w) where
+  mark-there : m ≡ incidence s .mark (incidence s .origin (next e))
+  mark-there = is ∙ ap (incidence s .mark) (at ∙ ap (incidence s .origin) after)
 
-module _ (ts : List ℕ) (s : List ℤ) (v e w m : ℕ) (at : w ≡ org ts (prev e)) (is : m ≡ tablesOf s .mark (2 * w)) where
-  mark-there : m ≡ tablesOf s .mark (2 * tip ts (next e))
-  mark-there = is ∙ ap (λ (x : ℕ). tablesOf s .mark (2 * x)) (at ∙ tip-next ts e)
-
-  pub left-clash : m / 65536 ≡ v + 1 → Left ts s s v (next e) true
+  pub left-clash : m / 65536 ≡ v + 1 → Left s s v e true
   unfolding clashes isOf
   left-clash h = record {
-    found = sym (eq-eqb (tablesOf s .mark (2 * tip ts (next e)) / 65536) (v + 1) (ap (λ (x : ℕ). x / 65536) (sym mark-there) ∙ h));
+    found = sym (eq-eqb (incidence s .mark (incidence s .origin (next e)) / 65536) (v + 1) (ap (λ (x : ℕ). x / 65536) (sym mark-there) ∙ h));
     same = refl;
   }
 
-  pub left-on : (s′ : List ℤ) (d : ℕ) → (m / 65536 ≡ v + 1 → ⊥) → d ≡ next e →
-      tablesOf s′ ≡ setMark (2 * w) (65536 * (v + 1) + d % 65536) (tablesOf s)
-      → Left ts s s′ v (next e) false
+  pub left-on : (s′ : List ℤ) → (m / 65536 ≡ v + 1 → ⊥) → e < 65536 → incidence s′ ≡ setMark w (65536 * (v + 1) + e) (incidence s) → Left s s′ v e false
   unfolding clashes isOf noted
-  left-on s′ d h q x = record {
-    found = sym (ne-eqb (tablesOf s .mark (2 * tip ts (next e)) / 65536) (v + 1) (λ z. h (ap (λ (y : ℕ). y / 65536) mark-there ∙ z)));
-    same = x ∙ rw (at, tip-next ts e, q);
-  }
+  left-on s′ h few x =
+      let z : 65536 * (v + 1) + e ≡ 65536 * (v + 1) + e % 65536 = omega arith in
+      record {
+        found = sym (ne-eqb (incidence s .mark (incidence s .origin (next e)) / 65536) (v + 1) (λ z. h (ap (λ (y : ℕ). y / 65536) mark-there ∙ z)));
+        same =
+            x ∙ ap (λ (y : ℕ). setMark w y (incidence s)) z
+            ∙ ap (λ (u : ℕ). setMark u (65536 * (v + 1) + e % 65536) (incidence s)) (at ∙ ap (incidence s .origin) after);
+      }
 
--- k darts of v from h on are walked; i of them are done, and the dart after e is the next
-pub record Marking (ts : List ℕ) (s₀ : List ℤ) (v k h : ℕ) (s : List ℤ) (e i : ℕ) : Type 0 where
+-- k darts of v from h on are walked; i of them are done, and e is the next
+pub record Marking (s₀ : List ℤ) (v k h : ℕ) (s : List ℤ) (e i : ℕ) : Type 0 where
   pub long : length s ≡ length s₀
-  pub small : e < 2 ^ 63
-  pub same : tablesOf s ≡ withMark (tablesOf s .mark) (tablesOf s₀)
-  pub rest : scan ts v (chain (tablesOf s₀ .op) (k - i) (next e)) (tablesOf s .mark) ≡ scan ts v (chain (tablesOf s₀ .op) k h) (tablesOf s₀ .mark)
+  pub bounds : Keeps s₀ s
+  pub dart : (T : ℕ) → Bounded T (length s₀) (incidence s₀) → e < 3 * T
+  pub same : incidence s ≡ withMark (incidence s .mark) (incidence s₀)
+  pub rest : scan (incidence s₀ .origin) v (chain (incidence s₀ .turn) (k - i) e) (incidence s .mark)
+      ≡ scan (incidence s₀ .origin) v (chain (incidence s₀ .turn) k h) (incidence s₀ .mark)
 
-pub marking-start : (ts : List ℕ) (s : List ℤ) (v k h e : ℕ) → e ≡ prev h → e < 2 ^ 63 → Marking ts s v k h s e 0
+pub marking-start : (s : List ℤ) (v k h : ℕ) → h ≡ incidence s .first v → Marking s v k h s h 0
 unfolding withMark
-marking-start ts s v k h e q l =
+marking-start s v k h q =
     let z : k - 0 ≡ k = omega arith in
-    let y : next e ≡ h = ap next q ∙ next-prev h in
-    record { long = refl; small = l; same = refl; rest = rw (z, y) }
+    record { long = refl; bounds = λ T B. B; dart = λ T B. omega (arith, B .first v); same = refl; rest = rw z }
 
-left : (op : ℕ → ℕ) (k i e : ℕ) → i < k → chain op (k - i) (next e) ≡ next e ∷ chain op (k - (i + 1)) (next (op e))
+left : (turn : ℕ → ℕ) (k i e : ℕ) → i < k → chain turn (k - i) e ≡ e ∷ chain turn (k - (i + 1)) (turn e)
 unfolding chain
-left op k i e h = let z : k - i ≡ suc (k - (i + 1)) = omega arith in rw (z, prev-next e)
+left turn k i e h = let z : k - i ≡ suc (k - (i + 1)) = omega arith in rw z
 
-marking-found : (ts : List ℕ) (s₀ : List ℤ) (v k h : ℕ) (s : List ℤ) (e i : ℕ) → i < k → clashes ts v (tablesOf s .mark) (next e) ≡ true →
-    Marking ts s₀ v k h s e i
-    → record { found = true; mark = tablesOf s .mark } ≡ scan ts v (chain (tablesOf s₀ .op) k h) (tablesOf s₀ .mark)
-marking-found ts s₀ v k h s e i l c I =
-    sym (scan-clash ts v (next e) (chain (tablesOf s₀ .op) (k - (i + 1)) (next (tablesOf s₀ .op e))) (tablesOf s .mark) c)
-    ∙ ap (λ (ds : List ℕ). scan ts v ds (tablesOf s .mark)) (sym (left (tablesOf s₀ .op) k i e l)) ∙ I .rest
+-- the tables beside the marks are those of the start
+same-turn : (s₀ s : List ℤ) → incidence s ≡ withMark (incidence s .mark) (incidence s₀) → incidence s .turn ≡ incidence s₀ .turn
+unfolding withMark
+same-turn s₀ s e = ap (λ (i : Incidence). i .turn) e
 
-pub marking-next : (ts : List ℕ) (s₀ : List ℤ) (v k h : ℕ) (s s′ : List ℤ) (e e′ i : ℕ) (r : Bool) → i < k → r ≡ false →
-    length s′ ≡ length s
-    → Left ts s s′ v (next e) r → e′ ≡ tablesOf s′ .op e → e′ < 2 ^ 63 → Marking ts s₀ v k h s e i →
-    Marking ts s₀ v k h s′ e′ (i + 1)
-unfolding setMark withMark
-marking-next ts s₀ v k h s s′ e e′ i r l f m L q b I =
-    let c : clashes ts v (tablesOf s .mark) (next e) ≡ false = sym (L .found) ∙ f in
-    let x : tablesOf s′ ≡ setMark (2 * tip ts (next e)) (noted v (next e)) (tablesOf s) = rw f at (L .same) in
-    let o : tablesOf s′ .op ≡ tablesOf s₀ .op = ap (λ (t : Tables). t .op) x ∙ ap (λ (t : Tables). t .op) (I .same) in
-    let y : e′ ≡ tablesOf s₀ .op e = q ∙ ap (λ (f : ℕ → ℕ). f e) o in
-    let to = upd (2 * tip ts (next e)) (noted v (next e)) (tablesOf s .mark) in
-    let a : tablesOf s′ .mark ≡ to = ap (λ (t : Tables). t .mark) x in
-    record {
-      long = m ∙ I .long;
-      small = b;
-      same = only-mark (tablesOf s′) (tablesOf s₀) to (x ∙ ap (withMark to) (I .same));
-      rest =
-          rw (a, y)
-          (sym (scan-on ts v (next e) (chain (tablesOf s₀ .op) (k - (i + 1)) (next (tablesOf s₀ .op e))) (tablesOf s .mark) c)
-          ∙ ap (λ (ds : List ℕ). scan ts v ds (tablesOf s .mark)) (sym (left (tablesOf s₀ .op) k i e l)) ∙ I .rest);
-    }
+same-origin : (s₀ s : List ℤ) → incidence s ≡ withMark (incidence s .mark) (incidence s₀) → incidence s .origin ≡ incidence s₀ .origin
+unfolding withMark
+same-origin s₀ s e = ap (λ (i : Incidence). i .origin) e
+
+-- dart e has its word, and so has the vertex that it leads to
+pub marking-dart : (s₀ : List ℤ) (v k h : ℕ) (s : List ℤ) (e i : ℕ) → AtVertex s₀ v → Marking s₀ v k h s e i → (s′ : List ℤ) → length s′ ≡ length s
+    → dartIn (length s′) e
+marking-dart s₀ v k h s e i A I s′ l = omega (arith, I .long, I .dart (A .triangles) (A .bounds), A .bounds .room)
+
+pub marking-beside : (s₀ : List ℤ) (v k h : ℕ) (s : List ℤ) (e i : ℕ) → AtVertex s₀ v → Marking s₀ v k h s e i → Beside s v e (next e)
+marking-beside s₀ v k h s e i A I =
+    beside-next s (rw (I .long) (I .bounds (A .triangles) (A .bounds))) (I .dart (A .triangles) (A .bounds)) (A .small)
+
+module _ (s₀ : List ℤ) (v k h : ℕ) (s : List ℤ) (e i : ℕ) (l : i < k) (I : Marking s₀ v k h s e i) where
+  -- what is left, if e clashes or not
+  abbrev later : List ℕ
+  later = chain (incidence s₀ .turn) (k - (i + 1)) (incidence s₀ .turn e)
+
+  marking-rest : scan (incidence s₀ .origin) v (e ∷ later) (incidence s .mark)
+      ≡ scan (incidence s₀ .origin) v (chain (incidence s₀ .turn) k h) (incidence s₀ .mark)
+  marking-rest = ap (λ (ds : List ℕ). scan (incidence s₀ .origin) v ds (incidence s .mark)) (sym (left (incidence s₀ .turn) k i e l)) ∙ I .rest
+
+  clash-is : clashes (incidence s .origin) v (incidence s .mark) e ≡ clashes (incidence s₀ .origin) v (incidence s .mark) e
+  clash-is = ap (λ (o : ℕ → ℕ). clashes o v (incidence s .mark) e) (same-origin s₀ s (I .same))
+
+  marking-found : clashes (incidence s .origin) v (incidence s .mark) e ≡ true
+      → record { found = true; mark = incidence s .mark } ≡ scan (incidence s₀ .origin) v (chain (incidence s₀ .turn) k h) (incidence s₀ .mark)
+  marking-found c = sym (scan-clash (incidence s₀ .origin) v e later (incidence s .mark) (sym clash-is ∙ c)) ∙ marking-rest
+
+  pub marking-next : (s′ : List ℤ) (e′ : ℕ) (r : Bool) → r ≡ false → length s′ ≡ length s → Left s s′ v e r → e′ ≡ incidence s′ .turn e
+      → Marking s₀ v k h s′ e′ (i + 1)
+  unfolding setMark withMark
+  marking-next s′ e′ r f m L q =
+      let c : clashes (incidence s₀ .origin) v (incidence s .mark) e ≡ false = sym clash-is ∙ sym (L .found) ∙ f in
+      let x : incidence s′ ≡ setMark (incidence s .origin (next e)) (noted v e) (incidence s) = rw f at (L .same) in
+      let o = same-origin s₀ s (I .same) in
+      let t : incidence s′ .turn ≡ incidence s .turn = ap (λ (i : Incidence). i .turn) x in
+      let u : e′ ≡ incidence s₀ .turn e = q ∙ ap (λ (f : ℕ → ℕ). f e) (t ∙ same-turn s₀ s (I .same)) in
+      let to = upd (incidence s .origin (next e)) (noted v e) (incidence s .mark) in
+      let a : incidence s′ .mark ≡ upd (incidence s₀ .origin (next e)) (noted v e) (incidence s .mark) =
+      ap (λ (i : Incidence). i .mark) x ∙ ap (λ (o : ℕ → ℕ). upd (o (next e)) (noted v e) (incidence s .mark)) o in
+      record {
+        long = m ∙ I .long;
+        bounds = λ T B.
+            let C = I .bounds T B in
+            rw x (bounded-mark C (incidence s .origin (next e)) (noted v e)
+            (let d = I .dart T B in let n = noted-dart v e (omega (arith, C .few)) in omega arith));
+        dart = λ T B. let d = B .turn e (I .dart T B) in rw u d;
+        same = only-mark (incidence s′) (incidence s₀) to (x ∙ ap (withMark to) (I .same));
+        rest = rw (a, u) (sym (scan-on (incidence s₀ .origin) v e later (incidence s .mark) c) ∙ marking-rest);
+      }
 
 -- what the whole walk gives
-pub record Marked (ts : List ℕ) (s s′ : List ℤ) (v : ℕ) (r : Bool) : Type 0 where
-  pub found : r ≡ scan ts v (chain (tablesOf s .op) (tablesOf s .count v) (tablesOf s .head v)) (tablesOf s .mark) .found
-  pub same : tablesOf s′ ≡ withMark (scan ts v (chain (tablesOf s .op) (tablesOf s .count v) (tablesOf s .head v)) (tablesOf s .mark) .mark) (tablesOf s)
+abbrev pub marks : List ℤ → ℕ → Scan
+marks s v = scan (incidence s .origin) v (listAt (incidence s) v) (incidence s .mark)
 
-marked : (ts : List ℕ) (s₀ s : List ℤ) (v k h : ℕ) (r : Bool) → k ≡ tablesOf s₀ .count v → h ≡ tablesOf s₀ .head v →
-    tablesOf s ≡ withMark (tablesOf s .mark) (tablesOf s₀)
-    → record { found = r; mark = tablesOf s .mark } ≡ scan ts v (chain (tablesOf s₀ .op) k h) (tablesOf s₀ .mark) → Marked ts s₀ s v r
-marked ts s₀ s v k h r a b e q =
-    let w : record { found = r; mark = tablesOf s .mark }
-    ≡ scan ts v (chain (tablesOf s₀ .op) (tablesOf s₀ .count v) (tablesOf s₀ .head v)) (tablesOf s₀ .mark) =
-    rw (a, b) at q in
-    record {
-      found = ap (λ (x : Scan). x .found) w;
-      same = e ∙ ap (λ (x : Scan). withMark (x .mark) (tablesOf s₀)) w;
-    }
+pub record Marked (s s′ : List ℤ) (v : ℕ) (r : Bool) : Type 0 where
+  pub found : r ≡ marks s v .found
+  pub same : incidence s′ ≡ withMark (marks s v .mark) (incidence s)
+  pub bounds : Keeps s s′
 
-pub marked-found : (ts : List ℕ) (s₀ : List ℤ) (v k h : ℕ) (s s′ : List ℤ) (e i : ℕ) (r : Bool) → k ≡ tablesOf s₀ .count v →
-    h ≡ tablesOf s₀ .head v → i < k
-    → r ≡ true → Left ts s s′ v (next e) r → Marking ts s₀ v k h s e i → Marked ts s₀ s′ v true
-marked-found ts s₀ v k h s s′ e i r a b l f L I =
-    let x : tablesOf s′ ≡ tablesOf s = rw f at (L .same) in
-    let m : tablesOf s′ .mark ≡ tablesOf s .mark = ap (λ (t : Tables). t .mark) x in
-    marked ts s₀ s′ v k h true a b (rw x (I .same)) (rw m (marking-found ts s₀ v k h s e i l (sym (L .found) ∙ f) I))
+module _ (s₀ : List ℤ) (v k h : ℕ) (a : k ≡ incidence s₀ .number v) (b : h ≡ incidence s₀ .first v) where
+  marked : (s : List ℤ) (r : Bool) → Keeps s₀ s → incidence s ≡ withMark (incidence s .mark) (incidence s₀)
+      → record { found = r; mark = incidence s .mark } ≡ scan (incidence s₀ .origin) v (chain (incidence s₀ .turn) k h) (incidence s₀ .mark)
+      → Marked s₀ s v r
+  marked s r K e q =
+      let w : record { found = r; mark = incidence s .mark } ≡ marks s₀ v = rw (a, b) at q in
+      record {
+        found = ap (λ (x : Scan). x .found) w;
+        same = e ∙ ap (λ (x : Scan). withMark (x .mark) (incidence s₀)) w;
+        bounds = K;
+      }
 
-pub marked-none : (ts : List ℕ) (s₀ : List ℤ) (v k h : ℕ) (s : List ℤ) (e i : ℕ) → k ≡ tablesOf s₀ .count v → h ≡ tablesOf s₀ .head v
-    → k ≤ i
-    → Marking ts s₀ v k h s e i → Marked ts s₀ s v false
-unfolding chain scan
-marked-none ts s₀ v k h s e i a b l I =
-    let z : k - i ≡ 0 = omega arith in marked ts s₀ s v k h false a b (I .same) (rw z at (I .rest))
+  pub marked-found : (s s′ : List ℤ) (e i : ℕ) (r : Bool) → i < k → r ≡ true → Left s s′ v e r → Marking s₀ v k h s e i → Marked s₀ s′ v true
+  marked-found s s′ e i r l f L I =
+      let x : incidence s′ ≡ incidence s = rw f at (L .same) in
+      let m : incidence s′ .mark ≡ incidence s .mark = ap (λ (i : Incidence). i .mark) x in
+      marked s′ true (λ T B. rw x (I .bounds T B)) (rw x (I .same)) (rw m (marking-found s₀ v k h s e i l I (sym (L .found) ∙ f)))
+
+  pub marked-none : (s : List ℤ) (e i : ℕ) → k ≤ i → Marking s₀ v k h s e i → Marked s₀ s v false
+  unfolding chain scan
+  marked-none s e i l I = let z : k - i ≡ 0 = omega arith in marked s false (I .bounds) (I .same) (rw z at (I .rest))
 
 -- ---- vertex by vertex, from u on
 
-pub record Scanning (ts : List ℕ) (u n : ℕ) (s₀ s : List ℤ) (v : ℕ) : Type 0 where
+pub record Scanning (u n : ℕ) (s₀ s : List ℤ) (v : ℕ) : Type 0 where
   pub long : length s ≡ length s₀
-  pub same : tablesOf s ≡ withMark (tablesOf s .mark) (tablesOf s₀)
-  pub rest : scanAll ts (tablesOf s₀) (n - v) v (tablesOf s .mark) ≡ scanAll ts (tablesOf s₀) (n - u) u (tablesOf s₀ .mark)
+  pub bounds : Keeps s₀ s
+  pub same : incidence s ≡ withMark (incidence s .mark) (incidence s₀)
+  pub rest : scanAll (incidence s₀) (n - v) v (incidence s .mark) ≡ scanAll (incidence s₀) (n - u) u (incidence s₀ .mark)
 
-pub record Scanned (ts : List ℕ) (u n : ℕ) (s s′ : List ℤ) (r : Bool) : Type 0 where
-  pub found : r ≡ scanAll ts (tablesOf s) (n - u) u (tablesOf s .mark) .found
-  pub same : tablesOf s′ ≡ withMark (scanAll ts (tablesOf s) (n - u) u (tablesOf s .mark) .mark) (tablesOf s)
+pub record Scanned (u n : ℕ) (s s′ : List ℤ) (r : Bool) : Type 0 where
+  pub found : r ≡ scanAll (incidence s) (n - u) u (incidence s .mark) .found
+  pub same : incidence s′ ≡ withMark (scanAll (incidence s) (n - u) u (incidence s .mark) .mark) (incidence s)
 
-pub scanning-start : (ts : List ℕ) (u n : ℕ) (s : List ℤ) → Scanning ts u n s s u
+pub scanning-start : (u n : ℕ) (s : List ℤ) → Scanning u n s s u
 unfolding withMark
-scanning-start ts u n s = record { long = refl; same = refl; rest = refl }
+scanning-start u n s = record { long = refl; bounds = λ T B. B; same = refl; rest = refl }
 
--- the lists are those of the start
-same-list : (s₀ s : List ℤ) (v : ℕ) → tablesOf s ≡ withMark (tablesOf s .mark) (tablesOf s₀)
-    → chain (tablesOf s .op) (tablesOf s .count v) (tablesOf s .head v) ≡ chain (tablesOf s₀ .op) (tablesOf s₀ .count v) (tablesOf s₀ .head v)
-unfolding withMark
-same-list s₀ s v e = ap (λ (t : Tables). chain (t .op) (t .count v) (t .head v)) e
-
-scanned-mark : (ts : List ℕ) (s₀ s s′ : List ℤ) (v : ℕ) (r : Bool) → tablesOf s ≡ withMark (tablesOf s .mark) (tablesOf s₀) →
-    Marked ts s s′ v r
-    → tablesOf s′ ≡ withMark (scan ts v (chain (tablesOf s₀ .op) (tablesOf s₀ .count v) (tablesOf s₀ .head v)) (tablesOf s .mark) .mark)
-    (tablesOf s₀)
-unfolding withMark
-scanned-mark ts s₀ s s′ v r e M =
-    M .same
-    ∙ ap (λ (ds : List ℕ). withMark (scan ts v ds (tablesOf s .mark) .mark) (tablesOf s)) (same-list s₀ s v e)
-    ∙ ap (withMark (scan ts v (chain (tablesOf s₀ .op) (tablesOf s₀ .count v) (tablesOf s₀ .head v)) (tablesOf s .mark) .mark)) e
-
-pub scanning-found : (ts : List ℕ) (u n : ℕ) (s₀ s s′ : List ℤ) (v : ℕ) → v < n → Marked ts s s′ v true → Scanning ts u n s₀ s v →
-    Scanned ts u n s₀ s′ true
-unfolding scanAll
-scanning-found ts u n s₀ s s′ v h M I =
-    let z : n - v ≡ suc (n - suc v) = omega arith in
-    let one = scan ts v (chain (tablesOf s₀ .op) (tablesOf s₀ .count v) (tablesOf s₀ .head v)) (tablesOf s .mark) in
-    let f : one .found ≡ true = sym (M .found ∙ ap (λ (ds : List ℕ). scan ts v ds (tablesOf s .mark) .found) (same-list s₀ s v (I .same))) in
-    let w : record { found = true; mark = one .mark } ≡ scanAll ts (tablesOf s₀) (n - u) u (tablesOf s₀ .mark) = rw (z, f) at (I .rest) in
-    record {
-      found = ap (λ (x : Scan). x .found) w;
-      same = scanned-mark ts s₀ s s′ v true (I .same) M ∙ ap (λ (x : Scan). withMark (x .mark) (tablesOf s₀)) w;
-    }
-
-pub scanning-next : (ts : List ℕ) (u n : ℕ) (s₀ s s′ : List ℤ) (v : ℕ) → v < n → length s′ ≡ length s → Marked ts s s′ v false →
-    Scanning ts u n s₀ s v
-    → Scanning ts u n s₀ s′ (v + 1)
-unfolding scanAll withMark
-scanning-next ts u n s₀ s s′ v h l M I =
-    let z : n - v ≡ suc (n - (v + 1)) = omega arith in
-    let y : v + 1 ≡ suc v = omega arith in
-    let one = scan ts v (chain (tablesOf s₀ .op) (tablesOf s₀ .count v) (tablesOf s₀ .head v)) (tablesOf s .mark) in
-    let f : one .found ≡ false = sym (M .found ∙ ap (λ (ds : List ℕ). scan ts v ds (tablesOf s .mark) .found) (same-list s₀ s v (I .same))) in
-    let e = scanned-mark ts s₀ s s′ v false (I .same) M in
-    let w : scanAll ts (tablesOf s₀) (n - (v + 1)) (suc v) (one .mark) ≡ scanAll ts (tablesOf s₀) (n - u) u (tablesOf s₀ .mark) =
-    rw (z, f) at (I .rest) in
-    record {
-      long = l ∙ I .long;
-      same = only-mark (tablesOf s′) (tablesOf s₀) (one .mark) e;
-      rest =
-          ap (λ (m : ℕ → ℕ). scanAll ts (tablesOf s₀) (n - (v + 1)) (v + 1) m) (ap (λ (t : Tables). t .mark) e)
-          ∙ ap (λ (x : ℕ). scanAll ts (tablesOf s₀) (n - (v + 1)) x (one .mark)) y ∙ w;
-    }
-
-pub scanning-none : (ts : List ℕ) (u n : ℕ) (s₀ s : List ℤ) (v : ℕ) → n ≤ v → Scanning ts u n s₀ s v → Scanned ts u n s₀ s false
-unfolding scanAll
-scanning-none ts u n s₀ s v h I =
-    let z : n - v ≡ 0 = omega arith in
-    let w : record { found = false; mark = tablesOf s .mark } ≡ scanAll ts (tablesOf s₀) (n - u) u (tablesOf s₀ .mark) = rw z at (I .rest) in
-    record {
-      found = ap (λ (x : Scan). x .found) w;
-      same = I .same ∙ ap (λ (x : Scan). withMark (x .mark) (tablesOf s₀)) w;
-    }
-
--- ---- the darts that arrive at a vertex find their opposites
-
--- the dart before d finds its opposite, and stores it
-pub record Met (ts : List ℕ) (s s′ : List ℤ) (v d : ℕ) (r : Bool) : Type 0 where
-  pub met : r ≡ meets ts v (tablesOf s .mark) d
-  pub same : tablesOf s′ ≡ cond r (setOp (prev d) (facing ts (tablesOf s .mark) d) (tablesOf s)) (tablesOf s)
-
-met-is : (ts : List ℕ) (v : ℕ) (mark : ℕ → ℕ) (e : ℕ) → meets ts v mark (next e) ≡ (ltb e (length ts) && isOf v (mark (2 * org ts e)))
-unfolding meets
-met-is ts v mark e = rw (prev-next e)
-
-pub met-past : (ts : List ℕ) (s : List ℤ) (v e : ℕ) → length ts ≤ e → Met ts s s v (next e) false
-met-past ts s v e h = record {
-  met = sym (met-is ts v (tablesOf s .mark) e ∙ ap (λ (b : Bool). b && isOf v (tablesOf s .mark (2 * org ts e))) (le-ltb e (length ts) h));
-  same = refl;
+-- room for vertex v, whatever of it has changed within range
+pub ready-at : (n : ℕ) (s₀ s : List ℤ) (v : ℕ) → Ready n s₀ → v < n → length s ≡ length s₀ → Keeps s₀ s → AtVertex s v
+ready-at n s₀ s v R h l K = record {
+  triangles = R .triangles;
+  bounds = rw l (K (R .triangles) (R .bounds));
+  vertex = omega (arith, R .vertices);
+  small = omega (arith, R .small);
 }
 
-module _ (ts : List ℕ) (s : List ℤ) (v e w m : ℕ) (h : e < length ts) (at : w ≡ org ts e) (is : m ≡ tablesOf s .mark (2 * w)) where
-  mark-here : m ≡ tablesOf s .mark (2 * org ts e)
-  mark-here = is ∙ ap (λ (x : ℕ). tablesOf s .mark (2 * x)) at
+module _ (u n : ℕ) (s₀ s : List ℤ) (v : ℕ) (I : Scanning u n s₀ s v) where
+  pub scanning-at : Ready n s₀ → v < n → AtVertex s v
+  scanning-at R h = ready-at n s₀ s v R h (I .long) (I .bounds)
 
-  met-so : meets ts v (tablesOf s .mark) (next e) ≡ isOf v m
-  met-so =
-      met-is ts v (tablesOf s .mark) e ∙ ap (λ (b : Bool). b && isOf v (tablesOf s .mark (2 * org ts e))) (lt-ltb e (length ts) h)
-      ∙ ap (isOf v) (sym mark-here)
+  -- the lists are those of the start
+  now-scan : Scan
+  now-scan = scan (incidence s₀ .origin) v (listAt (incidence s₀) v) (incidence s .mark)
 
-  pub met-none : (m / 65536 ≡ v + 1 → ⊥) → Met ts s s v (next e) false
+  now-is : marks s v ≡ now-scan
+  unfolding withMark now-scan
+  now-is = ap (λ (i : Incidence). scan (i .origin) v (listAt i v) (incidence s .mark)) (I .same)
+
+  now-mark : (s′ : List ℤ) (r : Bool) → Marked s s′ v r → incidence s′ ≡ withMark (now-scan .mark) (incidence s₀)
+  unfolding withMark
+  now-mark s′ r M = M .same ∙ ap (λ (x : Scan). withMark (x .mark) (incidence s)) now-is ∙ ap (withMark (now-scan .mark)) (I .same)
+
+  pub scanning-found : (s′ : List ℤ) (r : Bool) → r ≡ true → v < n → Marked s s′ v r → Scanned u n s₀ s′ true
+  unfolding scanAll now-scan
+  scanning-found s′ r t h M =
+      let z : n - v ≡ suc (n - suc v) = omega arith in
+      let f : now-scan .found ≡ true = sym (sym t ∙ M .found ∙ ap (λ (x : Scan). x .found) now-is) in
+      let w : record { found = true; mark = now-scan .mark } ≡ scanAll (incidence s₀) (n - u) u (incidence s₀ .mark) = rw (z, f) at (I .rest) in
+      record {
+        found = ap (λ (x : Scan). x .found) w;
+        same = now-mark s′ r M ∙ ap (λ (x : Scan). withMark (x .mark) (incidence s₀)) w;
+      }
+
+  pub scanning-next : (s′ : List ℤ) (r : Bool) → r ≡ false → v < n → length s′ ≡ length s → Marked s s′ v r → Scanning u n s₀ s′ (v + 1)
+  unfolding scanAll withMark now-scan
+  scanning-next s′ r t h l M =
+      let z : n - v ≡ suc (n - suc v) = omega arith in
+      let y : v + 1 ≡ suc v = omega arith in
+      let f : now-scan .found ≡ false = sym (sym t ∙ M .found ∙ ap (λ (x : Scan). x .found) now-is) in
+      let e = now-mark s′ r M in
+      let m : incidence s′ .mark ≡ now-scan .mark = ap (λ (i : Incidence). i .mark) e in
+      let w : scanAll (incidence s₀) (n - suc v) (suc v) (now-scan .mark) ≡ scanAll (incidence s₀) (n - u) u (incidence s₀ .mark) =
+      rw (z, f) at (I .rest) in
+      record {
+        long = l ∙ I .long;
+        bounds = λ T B. rw (I .long) at (M .bounds T (rw (I .long) (I .bounds T B)));
+        same = only-mark (incidence s′) (incidence s₀) (now-scan .mark) e;
+        rest = rw (m, y) w;
+      }
+
+  pub scanning-none : n ≤ v → Scanned u n s₀ s false
+  unfolding scanAll
+  scanning-none h =
+      let z : n - v ≡ 0 = omega arith in
+      let w : record { found = false; mark = incidence s .mark } ≡ scanAll (incidence s₀) (n - u) u (incidence s₀ .mark) = rw z at (I .rest) in
+      record {
+        found = ap (λ (x : Scan). x .found) w;
+        same = I .same ∙ ap (λ (x : Scan). withMark (x .mark) (incidence s₀)) w;
+      }
+
+-- ---- the darts that leave a vertex find their turns
+
+-- dart e of vertex v finds its turn, and stores it
+pub record Met (s s′ : List ℤ) (v e : ℕ) (r : Bool) : Type 0 where
+  pub met : r ≡ meets (incidence s .origin) v (incidence s .mark) e
+  pub same : incidence s′ ≡ cond r (setTurn e (facing (incidence s .origin) (incidence s .mark) e) (incidence s)) (incidence s)
+
+module _ (s : List ℤ) (v e d w m : ℕ) (before : d ≡ prev e) (at : w ≡ incidence s .origin d) (is : m ≡ incidence s .mark w) where
+  mark-here : m ≡ incidence s .mark (incidence s .origin (prev e))
+  mark-here = is ∙ ap (incidence s .mark) (at ∙ ap (incidence s .origin) before)
+
+  met-so : meets (incidence s .origin) v (incidence s .mark) e ≡ isOf v m
+  unfolding meets
+  met-so = ap (isOf v) (sym mark-here)
+
+  pub met-none : (m / 65536 ≡ v + 1 → ⊥) → Met s s v e false
   unfolding isOf
   met-none f = record { met = sym (met-so ∙ ne-eqb (m / 65536) (v + 1) f); same = refl }
 
-  pub met-one : (s′ : List ℤ) → m / 65536 ≡ v + 1 → tablesOf s′ ≡ setOp e (m % 65536) (tablesOf s) → Met ts s s′ v (next e) true
+  pub met-one : (s′ : List ℤ) → m / 65536 ≡ v + 1 → incidence s′ ≡ setTurn e (m % 65536) (incidence s) → Met s s′ v e true
   unfolding isOf facing
-  met-one s′ f q = record { met = sym (met-so ∙ eq-eqb (m / 65536) (v + 1) f); same = q ∙ rw (prev-next e, mark-here) }
+  met-one s′ f q = record { met = sym (met-so ∙ eq-eqb (m / 65536) (v + 1) f); same = q ∙ ap (λ (x : ℕ). setTurn e (x % 65536) (incidence s)) mark-here }
 
-pub record Tying (ts : List ℕ) (s₀ : List ℤ) (v k h : ℕ) (s : List ℤ) (e i : ℕ) : Type 0 where
+pub record Tying (s₀ : List ℤ) (v k h : ℕ) (s : List ℤ) (e i : ℕ) : Type 0 where
   pub long : length s ≡ length s₀
-  pub small : e < 2 ^ 63
-  pub same : tablesOf s ≡ withOp (tablesOf s .op) (tablesOf s₀)
-  pub rest : join ts v (tablesOf s₀ .mark) (k - i) (next e) (tablesOf s .op) ≡ join ts v (tablesOf s₀ .mark) k h (tablesOf s₀ .op)
+  pub bounds : Keeps s₀ s
+  pub dart : (T : ℕ) → Bounded T (length s₀) (incidence s₀) → e < 3 * T
+  pub same : incidence s ≡ withTurn (incidence s .turn) (incidence s₀)
+  pub rest : join (incidence s₀ .origin) v (incidence s₀ .mark) (k - i) e (incidence s .turn)
+      ≡ join (incidence s₀ .origin) v (incidence s₀ .mark) k h (incidence s₀ .turn)
 
-pub record Tied (ts : List ℕ) (s s′ : List ℤ) (v : ℕ) (r : Bool) : Type 0 where
-  pub lacks : r ≡ join ts v (tablesOf s .mark) (tablesOf s .count v) (tablesOf s .head v) (tablesOf s .op) .lacks
-  pub same : tablesOf s′ ≡ withOp (join ts v (tablesOf s .mark) (tablesOf s .count v) (tablesOf s .head v) (tablesOf s .op) .op) (tablesOf s)
-
-pub tying-start : (ts : List ℕ) (s : List ℤ) (v k h e : ℕ) → e ≡ prev h → e < 2 ^ 63 → Tying ts s v k h s e 0
-unfolding withOp
-tying-start ts s v k h e q l =
+pub tying-start : (s : List ℤ) (v k h : ℕ) → h ≡ incidence s .first v → Tying s v k h s h 0
+unfolding withTurn
+tying-start s v k h q =
     let z : k - 0 ≡ k = omega arith in
-    let y : next e ≡ h = ap next q ∙ next-prev h in
-    record { long = refl; small = l; same = refl; rest = rw (z, y) }
+    record { long = refl; bounds = λ T B. B; dart = λ T B. omega (arith, B .first v); same = refl; rest = rw z }
 
-same-mark : (s₀ s : List ℤ) → tablesOf s ≡ withOp (tablesOf s .op) (tablesOf s₀) → tablesOf s .mark ≡ tablesOf s₀ .mark
-unfolding withOp
-same-mark s₀ s e = ap (λ (t : Tables). t .mark) e
+pub tying-dart : (s₀ : List ℤ) (v k h : ℕ) (s : List ℤ) (e i : ℕ) → AtVertex s₀ v → Tying s₀ v k h s e i → dartIn (length s) e
+tying-dart s₀ v k h s e i A I = omega (arith, I .long, I .dart (A .triangles) (A .bounds), A .bounds .room)
 
-pub tying-next : (ts : List ℕ) (s₀ : List ℤ) (v k h : ℕ) (s s′ : List ℤ) (e e′ i : ℕ) (r : Bool) → i < k → r ≡ true →
-    length s′ ≡ length s
-    → Met ts s s′ v (next e) r → e′ ≡ tablesOf s .op e → e′ < 2 ^ 63 → Tying ts s₀ v k h s e i → Tying ts s₀ v k h s′ e′ (i + 1)
-unfolding setOp withOp join
-tying-next ts s₀ v k h s s′ e e′ i r l f m M q b I =
-    let z : k - i ≡ suc (k - (i + 1)) = omega arith in
-    let o = same-mark s₀ s (I .same) in
-    let c : meets ts v (tablesOf s₀ .mark) (next e) ≡ true = ap (λ (g : ℕ → ℕ). meets ts v g (next e)) (sym o) ∙ sym (M .met) ∙ f in
-    let x : tablesOf s′ ≡ setOp e (facing ts (tablesOf s .mark) (next e)) (tablesOf s) = rw (f, prev-next e) at (M .same) in
-    let to = upd e (facing ts (tablesOf s .mark) (next e)) (tablesOf s .op) in
-    let a : tablesOf s′ .op ≡ upd e (facing ts (tablesOf s₀ .mark) (next e)) (tablesOf s .op) =
-    ap (λ (t : Tables). t .op) x ∙ ap (λ (f : ℕ → ℕ). upd e (facing ts f (next e)) (tablesOf s .op)) o in
-    let w : join ts v (tablesOf s₀ .mark) (k - (i + 1)) (next (tablesOf s .op e)) (upd e (facing ts (tablesOf s₀ .mark) (next e)) (tablesOf s .op))
-    ≡ join ts v (tablesOf s₀ .mark) k h (tablesOf s₀ .op) = rw (z, c, prev-next e) at (I .rest) in
-    record {
-      long = m ∙ I .long;
-      small = b;
-      same = only-op (tablesOf s′) (tablesOf s₀) to (x ∙ ap (withOp to) (I .same));
-      rest = rw (a, q) w;
-    }
+pub tying-beside : (s₀ : List ℤ) (v k h : ℕ) (s : List ℤ) (e i : ℕ) → AtVertex s₀ v → Tying s₀ v k h s e i → Beside s v e (prev e)
+tying-beside s₀ v k h s e i A I =
+    beside-prev s (rw (I .long) (I .bounds (A .triangles) (A .bounds))) (I .dart (A .triangles) (A .bounds)) (A .small)
 
-tied : (ts : List ℕ) (s₀ s : List ℤ) (v k h : ℕ) (r : Bool) → k ≡ tablesOf s₀ .count v → h ≡ tablesOf s₀ .head v →
-    tablesOf s ≡ withOp (tablesOf s .op) (tablesOf s₀)
-    → record { lacks = r; op = tablesOf s .op } ≡ join ts v (tablesOf s₀ .mark) k h (tablesOf s₀ .op) → Tied ts s₀ s v r
-tied ts s₀ s v k h r a b e q =
-    let w : record { lacks = r; op = tablesOf s .op } ≡ join ts v (tablesOf s₀ .mark) (tablesOf s₀ .count v) (tablesOf s₀ .head v)
-    (tablesOf s₀ .op) = rw (a, b) at q in
-    record {
-      lacks = ap (λ (x : Join). x .lacks) w;
-      same = e ∙ ap (λ (x : Join). withOp (x .op) (tablesOf s₀)) w;
-    }
+module _ (s₀ : List ℤ) (v k h : ℕ) (s : List ℤ) (e i : ℕ) (l : i < k) (I : Tying s₀ v k h s e i) where
+  -- origins and marks are those of the start
+  meets-is : meets (incidence s .origin) v (incidence s .mark) e ≡ meets (incidence s₀ .origin) v (incidence s₀ .mark) e
+  unfolding withTurn
+  meets-is = ap (λ (i : Incidence). meets (i .origin) v (i .mark) e) (I .same)
 
-pub tied-lacks : (ts : List ℕ) (s₀ : List ℤ) (v k h : ℕ) (s s′ : List ℤ) (e i : ℕ) (r : Bool) → k ≡ tablesOf s₀ .count v →
-    h ≡ tablesOf s₀ .head v → i < k
-    → r ≡ false → Met ts s s′ v (next e) r → Tying ts s₀ v k h s e i → Tied ts s₀ s′ v true
-unfolding join
-tied-lacks ts s₀ v k h s s′ e i r a b l f M I =
-    let z : k - i ≡ suc (k - (i + 1)) = omega arith in
-    let o = same-mark s₀ s (I .same) in
-    let c : meets ts v (tablesOf s₀ .mark) (next e) ≡ false = ap (λ (g : ℕ → ℕ). meets ts v g (next e)) (sym o) ∙ sym (M .met) ∙ f in
-    let x : tablesOf s′ ≡ tablesOf s = rw f at (M .same) in
-    let p : tablesOf s′ .op ≡ tablesOf s .op = ap (λ (t : Tables). t .op) x in
-    let w : record { lacks = true; op = tablesOf s .op } ≡ join ts v (tablesOf s₀ .mark) k h (tablesOf s₀ .op) = rw (z, c) at (I .rest) in
-    tied ts s₀ s′ v k h true a b (rw x (I .same)) (rw p w)
+  facing-is : facing (incidence s .origin) (incidence s .mark) e ≡ facing (incidence s₀ .origin) (incidence s₀ .mark) e
+  unfolding withTurn
+  facing-is = ap (λ (i : Incidence). facing (i .origin) (i .mark) e) (I .same)
 
-pub tied-none : (ts : List ℕ) (s₀ : List ℤ) (v k h : ℕ) (s : List ℤ) (e i : ℕ) → k ≡ tablesOf s₀ .count v → h ≡ tablesOf s₀ .head v
-    → k ≤ i
-    → Tying ts s₀ v k h s e i → Tied ts s₀ s v false
-unfolding join
-tied-none ts s₀ v k h s e i a b l I =
-    let z : k - i ≡ 0 = omega arith in tied ts s₀ s v k h false a b (I .same) (rw z at (I .rest))
+  facing-low : (T : ℕ) → Bounded T (length s₀) (incidence s) → facing (incidence s .origin) (incidence s .mark) e < 3 * T
+  unfolding facing
+  facing-low T B = B .mark (incidence s .origin (prev e))
+
+  pub tying-next : (s′ : List ℤ) (e′ : ℕ) (r : Bool) → r ≡ true → length s′ ≡ length s → Met s s′ v e r → e′ ≡ incidence s .turn e
+      → Tying s₀ v k h s′ e′ (i + 1)
+  unfolding setTurn withTurn join
+  tying-next s′ e′ r f m M q =
+      let z : k - i ≡ suc (k - (i + 1)) = omega arith in
+      let c : meets (incidence s₀ .origin) v (incidence s₀ .mark) e ≡ true = sym meets-is ∙ sym (M .met) ∙ f in
+      let new = facing (incidence s .origin) (incidence s .mark) e in
+      let x : incidence s′ ≡ setTurn e new (incidence s) = rw f at (M .same) in
+      let to = upd e new (incidence s .turn) in
+      let a : incidence s′ .turn ≡ upd e (facing (incidence s₀ .origin) (incidence s₀ .mark) e) (incidence s .turn) =
+      ap (λ (i : Incidence). i .turn) x ∙ ap (λ (y : ℕ). upd e y (incidence s .turn)) facing-is in
+      let w : join (incidence s₀ .origin) v (incidence s₀ .mark) (k - (i + 1)) (incidence s .turn e)
+      (upd e (facing (incidence s₀ .origin) (incidence s₀ .mark) e) (incidence s .turn))
+      ≡ join (incidence s₀ .origin) v (incidence s₀ .mark) k h (incidence s₀ .turn) = rw (z, c) at (I .rest) in
+      record {
+        long = m ∙ I .long;
+        bounds = λ T B. let C = I .bounds T B in rw x (bounded-turn C e new (facing-low T C));
+        dart = λ T B. let d = I .bounds T B .turn e (I .dart T B) in rw q d;
+        same = only-turn (incidence s′) (incidence s₀) to (x ∙ ap (withTurn to) (I .same));
+        rest = rw (a, q) w;
+      }
+
+  tying-lacks : meets (incidence s .origin) v (incidence s .mark) e ≡ false
+      → record { lacks = true; turn = incidence s .turn } ≡ join (incidence s₀ .origin) v (incidence s₀ .mark) k h (incidence s₀ .turn)
+  unfolding join
+  tying-lacks c =
+      let z : k - i ≡ suc (k - (i + 1)) = omega arith in
+      rw (z, sym meets-is ∙ c) at (I .rest)
+
+-- what the whole walk gives
+abbrev pub turns : List ℤ → ℕ → Join
+turns s v = join (incidence s .origin) v (incidence s .mark) (incidence s .number v) (incidence s .first v) (incidence s .turn)
+
+pub record Tied (s s′ : List ℤ) (v : ℕ) (r : Bool) : Type 0 where
+  pub lacks : r ≡ turns s v .lacks
+  pub same : incidence s′ ≡ withTurn (turns s v .turn) (incidence s)
+  pub bounds : Keeps s s′
+
+module _ (s₀ : List ℤ) (v k h : ℕ) (a : k ≡ incidence s₀ .number v) (b : h ≡ incidence s₀ .first v) where
+  tied : (s : List ℤ) (r : Bool) → Keeps s₀ s → incidence s ≡ withTurn (incidence s .turn) (incidence s₀)
+      → record { lacks = r; turn = incidence s .turn } ≡ join (incidence s₀ .origin) v (incidence s₀ .mark) k h (incidence s₀ .turn)
+      → Tied s₀ s v r
+  tied s r K e q =
+      let w : record { lacks = r; turn = incidence s .turn } ≡ turns s₀ v = rw (a, b) at q in
+      record {
+        lacks = ap (λ (x : Join). x .lacks) w;
+        same = e ∙ ap (λ (x : Join). withTurn (x .turn) (incidence s₀)) w;
+        bounds = K;
+      }
+
+  pub tied-lacks : (s s′ : List ℤ) (e i : ℕ) (r : Bool) → i < k → r ≡ false → Met s s′ v e r → Tying s₀ v k h s e i → Tied s₀ s′ v true
+  tied-lacks s s′ e i r l f M I =
+      let x : incidence s′ ≡ incidence s = rw f at (M .same) in
+      let p : incidence s′ .turn ≡ incidence s .turn = ap (λ (i : Incidence). i .turn) x in
+      tied s′ true (λ T B. rw x (I .bounds T B)) (rw x (I .same)) (rw p (tying-lacks s₀ v k h s e i l I (sym (M .met) ∙ f)))
+
+  pub tied-none : (s : List ℤ) (e i : ℕ) → k ≤ i → Tying s₀ v k h s e i → Tied s₀ s v false
+  unfolding join
+  tied-none s e i l I = let z : k - i ≡ 0 = omega arith in tied s false (I .bounds) (I .same) (rw z at (I .rest))
 
 -- ---- both, vertex by vertex
 
-pub record Matching (ts : List ℕ) (n : ℕ) (s₀ s : List ℤ) (v : ℕ) : Type 0 where
+abbrev pub joinedAll : ℕ → Incidence → Round
+joinedAll n i = joinAll i n 0 (i .mark) (i .turn) 0
+
+-- `row` is 7 where a vertex before v has not one ring
+pub record Matching (n : ℕ) (s₀ s : List ℤ) (v row : ℕ) : Type 0 where
   pub long : length s ≡ length s₀
-  pub same : tablesOf s ≡ withOp (tablesOf s .op) (withMark (tablesOf s .mark) (tablesOf s₀))
-  pub rest : joinAll ts (tablesOf s₀) (n - v) v (tablesOf s .mark) (tablesOf s .op)
-      ≡ joinAll ts (tablesOf s₀) n 0 (tablesOf s₀ .mark) (tablesOf s₀ .op)
+  pub bounds : Keeps s₀ s
+  pub same : incidence s ≡ withTurn (incidence s .turn) (withMark (incidence s .mark) (incidence s₀))
+  pub rest : joinAll (incidence s₀) (n - v) v (incidence s .mark) (incidence s .turn) row ≡ joinedAll n (incidence s₀)
 
-abbrev pub joinedAll : List ℕ → ℕ → Tables → Round
-joinedAll ts n t = joinAll ts t n 0 (t .mark) (t .op)
+-- the row that is found, and the tables where that is not 5 or 6
+pub record AllMatched (n : ℕ) (s s′ : List ℤ) (r : ℕ) : Type 0 where
+  pub row : r ≡ joinedAll n (incidence s) .row
+  pub same : (r ≡ 5 → ⊥) → (r ≡ 6 → ⊥)
+      → incidence s′ ≡ withTurn (joinedAll n (incidence s) .turn) (withMark (joinedAll n (incidence s) .mark) (incidence s))
 
--- the row that is found, and the tables where none is
-pub record AllMatched (ts : List ℕ) (n : ℕ) (s s′ : List ℤ) (r : ℕ) : Type 0 where
-  pub row : r ≡ joinedAll ts n (tablesOf s) .row
-  pub same : r ≡ 0 → tablesOf s′ ≡ withOp (joinedAll ts n (tablesOf s) .op) (withMark (joinedAll ts n (tablesOf s) .mark) (tablesOf s))
-
-pub matching-start : (ts : List ℕ) (n : ℕ) (s : List ℤ) → Matching ts n s s 0
-unfolding withMark withOp
-matching-start ts n s =
+pub matching-start : (n : ℕ) (s : List ℤ) → Matching n s s 0 0
+unfolding withMark withTurn
+matching-start n s =
     let z : n - 0 ≡ n = omega arith in
-    record { long = refl; same = refl; rest = ap (λ (j : ℕ). joinAll ts (tablesOf s) j 0 (tablesOf s .mark) (tablesOf s .op)) z }
-
-module _ (ts : List ℕ) (n : ℕ) (s₀ s s₁ : List ℤ) (v : ℕ) (h : v < n) (I : Matching ts n s₀ s v) where
-  one : Scan
-  one = scan ts v (chain (tablesOf s .op) (tablesOf s₀ .count v) (tablesOf s₀ .head v)) (tablesOf s .mark)
-
-  two : Join
-  unfolding one
-  two = join ts v (one .mark) (tablesOf s₀ .count v) (tablesOf s₀ .head v) (tablesOf s .op)
-
-  one-is : scan ts v (chain (tablesOf s .op) (tablesOf s .count v) (tablesOf s .head v)) (tablesOf s .mark) ≡ one
-  unfolding withMark withOp one
-  one-is = ap (λ (t : Tables). scan ts v (chain (tablesOf s .op) (t .count v) (t .head v)) (tablesOf s .mark)) (I .same)
-
-  pub matching-twice : (r : Bool) → r ≡ true → (s′ : List ℤ) → Marked ts s s₁ v r → AllMatched ts n s₀ s′ 5
-  unfolding joinAll one
-  matching-twice r e s′ M =
-      let z : n - v ≡ suc (n - (v + 1)) = omega arith in
-      let f : one .found ≡ true = sym (sym e ∙ M .found ∙ ap (λ (x : Scan). x .found) one-is) in
-      let w : record { row = 5; op = tablesOf s .op; mark = one .mark } ≡ joinedAll ts n (tablesOf s₀) = rw (z, f) at (I .rest) in
-      record { row = ap (λ (x : Round). x .row) w; same = λ q. absurd (omega (arith, q)) }
-
-  -- after the marks, and after the opposites
-  module _ (r : Bool) (e : r ≡ false) (M : Marked ts s s₁ v r) (s₂ : List ℤ) (q : Bool) (J : Tied ts s₁ s₂ v q) where
-    clean : one .found ≡ false
-    clean = sym (sym e ∙ M .found ∙ ap (λ (x : Scan). x .found) one-is)
-
-    marks-are : tablesOf s₁ ≡ withOp (tablesOf s .op) (withMark (one .mark) (tablesOf s₀))
-    unfolding withMark withOp
-    marks-are =
-        M .same
-        ∙ ap (λ (x : Scan). withMark (x .mark) (tablesOf s)) one-is
-        ∙ ap (withMark (one .mark)) (I .same)
-
-    two-is : join ts v (tablesOf s₁ .mark) (tablesOf s₁ .count v) (tablesOf s₁ .head v) (tablesOf s₁ .op) ≡ two
-    unfolding withMark withOp two
-    two-is = ap (λ (t : Tables). join ts v (t .mark) (t .count v) (t .head v) (t .op)) marks-are
-
-    now-is : tablesOf s₂ ≡ withOp (two .op) (withMark (one .mark) (tablesOf s₀))
-    unfolding withMark withOp
-    now-is =
-        J .same
-        ∙ ap (λ (j : Join). withOp (j .op) (tablesOf s₁)) two-is
-        ∙ ap (withOp (two .op)) marks-are
-
-    pub matching-next : q ≡ false → length s₂ ≡ length s → Matching ts n s₀ s₂ (v + 1)
-    unfolding joinAll one two withMark withOp
-    matching-next g l =
-        let z : n - v ≡ suc (n - suc v) = omega arith in
-        let y : v + 1 ≡ suc v = omega arith in
-        let f : two .lacks ≡ false = sym (sym g ∙ J .lacks ∙ ap (λ (j : Join). j .lacks) two-is) in
-        let w : joinAll ts (tablesOf s₀) (n - suc v) (suc v) (one .mark) (two .op) ≡ joinedAll ts n (tablesOf s₀) = rw (z, clean, f) at (I .rest) in
-        let a : tablesOf s₂ .mark ≡ one .mark = ap (λ (t : Tables). t .mark) now-is in
-        let b : tablesOf s₂ .op ≡ two .op = ap (λ (t : Tables). t .op) now-is in
-        record {
-          long = l ∙ I .long;
-          same =
-              now-is ∙ ap (λ (g : ℕ → ℕ). withOp g (withMark (one .mark) (tablesOf s₀))) (sym b)
-              ∙ ap (λ (g : ℕ → ℕ). withOp (tablesOf s₂ .op) (withMark g (tablesOf s₀))) (sym a);
-          rest = rw (a, b, y) w;
-        }
-
-    -- an opposite is lacking; the marks have gone on alone
-    module _ (g : q ≡ true) (s₃ : List ℤ) (p : Bool) (S : Scanned ts (v + 1) n s₂ s₃ p) where
-      goes-on : p ≡ scanAll ts (withOp (two .op) (withMark (one .mark) (tablesOf s₀))) (n - suc v) (suc v) (one .mark) .found
-      unfolding withMark withOp
-      goes-on =
-          let y : v + 1 ≡ suc v = omega arith in
-          S .found ∙ ap (λ (x : ℕ). scanAll ts (tablesOf s₂) (n - x) x (tablesOf s₂ .mark) .found) y
-          ∙ ap (λ (t : Tables). scanAll ts t (n - suc v) (suc v) (t .mark) .found) now-is
-
-      row-is : cond p 5 6 ≡ joinedAll ts n (tablesOf s₀) .row
-      unfolding joinAll one two
-      row-is =
-          let z : n - v ≡ suc (n - suc v) = omega arith in
-          let f : two .lacks ≡ true = sym (sym g ∙ J .lacks ∙ ap (λ (j : Join). j .lacks) two-is) in
-          let w : record {
-            row = cond (scanAll ts (withOp (two .op) (withMark (one .mark) (tablesOf s₀))) (n - suc v) (suc v) (one .mark) .found) 5 6;
-            op = two .op;
-            mark = one .mark;
-          }
-          ≡ joinedAll ts n (tablesOf s₀) = rw (z, clean, f) at (I .rest) in
-          ap (λ (b : Bool). cond b 5 6) goes-on ∙ ap (λ (x : Round). x .row) w
-
-      pub matching-later : p ≡ true → (s′ : List ℤ) → AllMatched ts n s₀ s′ 5
-      matching-later f s′ = record { row = rw f at row-is; same = λ q. absurd (omega (arith, q)) }
-
-      pub matching-lacks : p ≡ false → (s′ : List ℤ) → AllMatched ts n s₀ s′ 6
-      matching-lacks f s′ = record { row = rw f at row-is; same = λ q. absurd (omega (arith, q)) }
-
-pub matching-none : (ts : List ℕ) (n : ℕ) (s₀ s : List ℤ) (v : ℕ) → n ≤ v → Matching ts n s₀ s v → AllMatched ts n s₀ s 0
-unfolding joinAll
-matching-none ts n s₀ s v h I =
-    let z : n - v ≡ 0 = omega arith in
-    let w : record { row = 0; op = tablesOf s .op; mark = tablesOf s .mark } ≡ joinedAll ts n (tablesOf s₀) = rw z at (I .rest) in
     record {
-      row = ap (λ (x : Round). x .row) w;
-      same = λ _. I .same ∙ ap (λ (x : Round). withOp (x .op) (withMark (x .mark) (tablesOf s₀))) w;
+      long = refl;
+      bounds = λ T B. B;
+      same = refl;
+      rest = ap (λ (j : ℕ). joinAll (incidence s) j 0 (incidence s .mark) (incidence s .turn) 0) z;
     }
 
--- a result that a test has told
-pub marked-as : (ts : List ℕ) (s s′ : List ℤ) (v : ℕ) (r : Bool) {b : Bool} → r ≡ b → Marked ts s s′ v r → Marked ts s s′ v b
-marked-as ts s s′ v r e M = rw e at M
+module _ (n : ℕ) (s₀ s : List ℤ) (v row : ℕ) (h : v < n) (I : Matching n s₀ s v row) where
+  pub matching-at : Ready n s₀ → AtVertex s v
+  matching-at R = ready-at n s₀ s v R h (I .long) (I .bounds)
+
+  one : Scan
+  one = scanned (incidence s₀) v (incidence s .mark) (incidence s .turn)
+
+  two : Join
+  two = joined (incidence s₀) v (incidence s .mark) (incidence s .turn)
+
+  one-is : marks s v ≡ one
+  unfolding withMark withTurn one
+  one-is = ap (λ (i : Incidence). scan (i .origin) v (chain (incidence s .turn) (i .number v) (i .first v)) (incidence s .mark)) (I .same)
+
+  -- after the marks
+  module _ (s₁ : List ℤ) (r : Bool) (M : Marked s s₁ v r) where
+    pub matching-twice : r ≡ true → (s′ : List ℤ) → AllMatched n s₀ s′ 5
+    unfolding joinAll one
+    matching-twice e s′ =
+        let z : n - v ≡ suc (n - suc v) = omega arith in
+        let f : one .found ≡ true = sym (sym e ∙ M .found ∙ ap (λ (x : Scan). x .found) one-is) in
+        let w : record { row = 5; turn = incidence s .turn; mark = one .mark } ≡ joinedAll n (incidence s₀) = rw (z, f) at (I .rest) in
+        record { row = ap (λ (x : Round). x .row) w; same = λ n5 n6. absurd (n5 refl) }
+
+    marked-keeps : Keeps s₀ s₁
+    marked-keeps T B = rw (I .long) at (M .bounds T (rw (I .long) (I .bounds T B)))
+
+    pub marked-at : Ready n s₀ → length s₁ ≡ length s → AtVertex s₁ v
+    marked-at R l = ready-at n s₀ s₁ v R h (l ∙ I .long) marked-keeps
+
+    marks-are : incidence s₁ ≡ withTurn (incidence s .turn) (withMark (one .mark) (incidence s₀))
+    unfolding withMark withTurn
+    marks-are = M .same ∙ ap (λ (x : Scan). withMark (x .mark) (incidence s)) one-is ∙ ap (withMark (one .mark)) (I .same)
+
+    -- after the turns
+    module _ (e : r ≡ false) (l : length s₁ ≡ length s) (s₂ : List ℤ) (q : Bool) (J : Tied s₁ s₂ v q) where
+      clean : one .found ≡ false
+      clean = sym (sym e ∙ M .found ∙ ap (λ (x : Scan). x .found) one-is)
+
+      two-is : turns s₁ v ≡ two
+      unfolding withMark withTurn one two
+      two-is = ap (λ (i : Incidence). join (i .origin) v (i .mark) (i .number v) (i .first v) (i .turn)) marks-are
+
+      tied-are : incidence s₂ ≡ withTurn (two .turn) (withMark (one .mark) (incidence s₀))
+      unfolding withMark withTurn
+      tied-are = J .same ∙ ap (λ (j : Join). withTurn (j .turn) (incidence s₁)) two-is ∙ ap (withTurn (two .turn)) marks-are
+
+      tied-keeps : Keeps s₀ s₂
+      tied-keeps T B = rw (l ∙ I .long) at (J .bounds T (rw (l ∙ I .long) (marked-keeps T B)))
+
+      pub tied-ready : Ready n s₀ → length s₂ ≡ length s₁ → Ready n s₂
+      tied-ready R m =
+          let z : length s₂ ≡ length s₀ = m ∙ l ∙ I .long in
+          record { triangles = R .triangles; bounds = rw z (tied-keeps (R .triangles) (R .bounds)); vertices = rw z (R .vertices); small = R .small }
+
+      -- the ring of v, which the turns show
+      pub tied-round : Ready n s₀ → length s₂ ≡ length s₁ → Rounding (length s₂) (incidence s₂) v
+      tied-round R m =
+          let z : length s₂ ≡ length s₀ = m ∙ l ∙ I .long in
+          let B : Bounded (R .triangles) (length s₂) (incidence s₂) = rw z (tied-keeps (R .triangles) (R .bounds)) in
+          record {
+            vertex = omega (arith, R .vertices, z);
+            dart = λ k. record { darts = 3 * R .triangles; room = B .room; below = B .turn; at = B .first v };
+          }
+
+      ring-is : ringRow (incidence s₂) v row ≡ ringRow (withTurn (two .turn) (incidence s₀)) v row
+      unfolding ringRow oneRing withMark withTurn
+      ring-is = ap (λ (i : Incidence). ringRow i v row) tied-are
+
+      pub matching-next : q ≡ false → length s₂ ≡ length s₁ → (row′ : ℕ) → row′ ≡ ringRow (incidence s₂) v row → Matching n s₀ s₂ (v + 1) row′
+      unfolding joinAll one two withMark withTurn
+      matching-next g m row′ e′ =
+          let z : n - v ≡ suc (n - suc v) = omega arith in
+          let y : v + 1 ≡ suc v = omega arith in
+          let f : two .lacks ≡ false = sym (sym g ∙ J .lacks ∙ ap (λ (j : Join). j .lacks) two-is) in
+          let w : joinAll (incidence s₀) (n - suc v) (suc v) (one .mark) (two .turn) (ringRow (withTurn (two .turn) (incidence s₀)) v row)
+          ≡ joinedAll n (incidence s₀) = rw (z, clean, f) at (I .rest) in
+          let a : incidence s₂ .mark ≡ one .mark = ap (λ (i : Incidence). i .mark) tied-are in
+          let b : incidence s₂ .turn ≡ two .turn = ap (λ (i : Incidence). i .turn) tied-are in
+          record {
+            long = m ∙ l ∙ I .long;
+            bounds = tied-keeps;
+            same =
+                tied-are ∙ ap (λ (g : ℕ → ℕ). withTurn g (withMark (one .mark) (incidence s₀))) (sym b)
+                ∙ ap (λ (g : ℕ → ℕ). withTurn (incidence s₂ .turn) (withMark g (incidence s₀))) (sym a);
+            rest = rw (a, b, y, e′ ∙ ring-is) w;
+          }
+
+      -- an opposite is lacking; the marks have gone on alone
+      module _ (g : q ≡ true) (s₃ : List ℤ) (p : Bool) (S : Scanned (v + 1) n s₂ s₃ p) where
+        goes-on : p ≡ scanAll (withTurn (two .turn) (withMark (one .mark) (incidence s₀))) (n - suc v) (suc v) (one .mark) .found
+        unfolding withMark withTurn
+        goes-on =
+            let y : v + 1 ≡ suc v = omega arith in
+            S .found ∙ ap (λ (x : ℕ). scanAll (incidence s₂) (n - x) x (incidence s₂ .mark) .found) y
+            ∙ ap (λ (i : Incidence). scanAll i (n - suc v) (suc v) (i .mark) .found) tied-are
+
+        row-is : cond p 5 6 ≡ joinedAll n (incidence s₀) .row
+        unfolding joinAll one two
+        row-is =
+            let z : n - v ≡ suc (n - suc v) = omega arith in
+            let f : two .lacks ≡ true = sym (sym g ∙ J .lacks ∙ ap (λ (j : Join). j .lacks) two-is) in
+            let w : record {
+              row = cond (scanAll (withTurn (two .turn) (withMark (one .mark) (incidence s₀))) (n - suc v) (suc v) (one .mark) .found) 5 6;
+              turn = two .turn;
+              mark = one .mark;
+            }
+            ≡ joinedAll n (incidence s₀) = rw (z, clean, f) at (I .rest) in
+            ap (λ (b : Bool). cond b 5 6) goes-on ∙ ap (λ (x : Round). x .row) w
+
+        pub matching-later : p ≡ true → (s′ : List ℤ) → AllMatched n s₀ s′ 5
+        matching-later f s′ = record { row = rw f at row-is; same = λ n5 n6. absurd (n5 refl) }
+
+        pub matching-lacks : p ≡ false → (s′ : List ℤ) → AllMatched n s₀ s′ 6
+        matching-lacks f s′ = record { row = rw f at row-is; same = λ n5 n6. absurd (n6 refl) }
+
+pub matching-none : (n : ℕ) (s₀ s : List ℤ) (v row : ℕ) → n ≤ v → Matching n s₀ s v row → AllMatched n s₀ s row
+unfolding joinAll
+matching-none n s₀ s v row h I =
+    let z : n - v ≡ 0 = omega arith in
+    let w : record { row = row; turn = incidence s .turn; mark = incidence s .mark } ≡ joinedAll n (incidence s₀) = rw z at (I .rest) in
+    record {
+      row = ap (λ (x : Round). x .row) w;
+      same = λ _ _. I .same ∙ ap (λ (x : Round). withTurn (x .turn) (withMark (x .mark) (incidence s₀))) w;
+    }

@@ -1,5 +1,5 @@
 -- Row 4, triangle by triangle. Assumes nothing.
-use Prim.Native.Nat.{ℕ, _+_, _%_, _<_}
+use Prim.Native.Nat.{ℕ, _+_, _%_, _≤_, _<_}
 use mathlib.Core.Path.{_≡_, refl, sym, ap, _∙_}
 use mathlib.Core.Bool.{Bool, true, false, _||_}
 use mathlib.Core.Logic.{inl, inr}
@@ -8,10 +8,10 @@ use native.Mathlib.Omega.{arith}
 use lib.Dec.{eqb}
 use lib.ListN.{length}
 use borrow.Author.Tests.{eq-eqb, ne-eqb}
-use Rattle.definitions.specs.Lists.{any, upto}
-use Rattle.definitions.specs.Mesh.{next, org, tip}
-use Rattle.laws.specs.Lists.{tested, clash}
-use Rattle.laws.specs.Loops.{Seeking, seeking-found, seeking-next}
+use native.Mathlib.Decide.{ℕ-discrete}
+use Rattle.definitions.specs.Lists.{upto}
+use Rattle.definitions.specs.Mesh.{next, org, tip, darts, row4}
+use Rattle.laws.specs.Lists.{tested, clash, true-any, false-any, in-upto, upto-in}
 
 -- dart e runs from a vertex to itself
 abbrev pub loops : List ℕ → ℕ → Bool
@@ -47,38 +47,45 @@ module _ (ts : List ℕ) (d a b c : ℕ) (first : d % 3 ≡ 0) (at : a ≡ org t
   pub doubled-3 : (a ≡ b → ⊥) → (b ≡ c → ⊥) → eqb c a ≡ repeatedAt ts d
   doubled-3 f g = sym (doubled-is ∙ rw (ne-eqb a b f, ne-eqb b c g))
 
--- three darts at a time
-module _ (ts : List ℕ) (d : ℕ) (low : d + 2 < length ts) (S : Seeking (loops ts) (length ts) d) where
-  two : d + 1 + 1 ≡ d + 2
-  two = omega arith
+-- ---- triangle by triangle, the last one first
 
-  pub three-found : repeatedAt ts d ≡ true → true ≡ any (loops ts) (upto (length ts))
-  unfolding repeatedAt
-  three-found e =
+-- no dart from d on runs from a vertex to itself
+abbrev pub NoLoops : List ℕ → ℕ → Type 0
+NoLoops ts d = (e : ℕ) → d ≤ e → e < length ts → loops ts e ≡ false
+
+module _ (ts : List ℕ) (d : ℕ) (low : d + 2 < length ts) where
+  pub loop-found : repeatedAt ts d ≡ true → row4 ts ≡ true
+  unfolding repeatedAt row4 darts
+  loop-found e =
       elim (tested (loops ts d)) [
-        | inl p ↦ seeking-found (loops ts) (length ts) d (omega arith) p S
-        | inr p ↦
-            let S₁ = seeking-next (loops ts) (length ts) d (omega arith) p S in
-            elim (tested (loops ts (d + 1))) [
-              | inl q ↦ seeking-found (loops ts) (length ts) (d + 1) (omega arith) q S₁
-              | inr q ↦
-                  let S₂ = rw two at (seeking-next (loops ts) (length ts) (d + 1) (omega arith) q S₁) in
-                  seeking-found (loops ts) (length ts) (d + 2) low (rw (p, q) at e) S₂
-            ]
+        | inl p ↦ true-any (loops ts) (in-upto (length ts) d (omega arith)) p
+        | inr p ↦ elim (tested (loops ts (d + 1))) [
+          | inl q ↦ true-any (loops ts) (in-upto (length ts) (d + 1) (omega arith)) q
+          | inr q ↦ true-any (loops ts) (in-upto (length ts) (d + 2) low) (rw (p, q) at e)
+        ]
       ]
 
-  pub three-next : repeatedAt ts d ≡ false → Seeking (loops ts) (length ts) (d + 3)
+  pub loops-none : repeatedAt ts d ≡ false → NoLoops ts (d + 3) → NoLoops ts d
   unfolding repeatedAt
-  three-next e =
+  loops-none e later x h l =
       elim (tested (loops ts d)) [
         | inl p ↦ let f : true ≡ false = rw p at e in clash refl f
-        | inr p ↦
-            let S₁ = seeking-next (loops ts) (length ts) d (omega arith) p S in
-            elim (tested (loops ts (d + 1))) [
-              | inl q ↦ let f : true ≡ false = rw (p, q) at e in clash refl f
-              | inr q ↦
-                  let S₂ = rw two at (seeking-next (loops ts) (length ts) (d + 1) (omega arith) q S₁) in
-                  let three : d + 2 + 1 ≡ d + 3 = omega arith in
-                  rw three at (seeking-next (loops ts) (length ts) (d + 2) low (rw (p, q) at e) S₂)
-            ]
+        | inr p ↦ elim (tested (loops ts (d + 1))) [
+          | inl q ↦ let f : true ≡ false = rw (p, q) at e in clash refl f
+          | inr q ↦
+              elim (ℕ-discrete x d) [
+                | yes z ↦ rw z p
+                | no z ↦ elim (ℕ-discrete x (d + 1)) [
+                  | yes w ↦ rw w q
+                  | no w ↦ elim (ℕ-discrete x (d + 2)) [
+                    | yes u ↦ rw u (rw (p, q) at e)
+                    | no u ↦ later x (omega (arith, z, w, u)) l
+                  ]
+                ]
+              ]
+        ]
       ]
+
+pub no-loops : (ts : List ℕ) → NoLoops ts 0 → row4 ts ≡ false
+unfolding row4 darts
+no-loops ts f = false-any (loops ts) (upto (length ts)) (λ e m. f e (omega arith) (upto-in (length ts) m))

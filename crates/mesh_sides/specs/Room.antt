@@ -1,90 +1,98 @@
--- The lent scratch has room for the tables of the mesh. Assumes nothing.
-use Prim.Native.Nat.{ℕ, suc, _+_, _*_, _≤_, _<_, _^_}
-use mathlib.Core.Path.{_≡_, refl, sym, ap, _∙_}
-use mathlib.Core.Bool.{Bool, true, false}
+-- What the functions of rows 3 to 6 ask of the lent slices: entries that are read and stored are in range. Assumes nothing.
+use Prim.Native.Nat.{ℕ, _+_, _*_, _%_, _≤_, _<_, _^_}
+use mathlib.Core.Path.{_≡_, ap, _∙_}
 use mathlib.Core.List.{List}
 use native.Mathlib.Omega.{arith}
-use lib.Dec.{leb}
-use lib.ListN.{length, getD}
+use lib.ListN.{length}
 use lib.IntN.{ℤ}
-use Rattle.definitions.specs.Lists.{any, upto}
-use Rattle.definitions.specs.Mesh.{prev, org, row3}
-use Rattle.laws.specs.Lists.{any-true, true-any, false-any, any-false, getD-in, in-getD, in-upto, upto-in}
-use Rattle.theory_sphere.specs.Darts.{prev-below}
-use Rattle.scratch_tables.specs.Tables.{dartIn, vertexIn, markIn, tablesOf, setOp, setHead, setCount}
-use Rattle.mesh_model.specs.IncidenceLists.{Counted, Headed, push}
+use Rattle.definitions.specs.Mesh.{next, prev, org}
+use Rattle.scratch_tables.specs.Tables.{column, pastDarts, dartIn, vertexIn}
+use Rattle.mesh_tables.specs.Incidence.{incidence, setDart, setList}
+use Rattle.mesh_model.specs.IncidenceLists.{Empty, Counted, push, fill}
+use Rattle.mesh_model.specs.Bounds.{Bounded, bounded-next, bounded-prev, fill-bounded}
 
--- `words` is the length of scratch
-pub record Room (ts : List ℕ) (words : ℕ) : Type 0 where
-  pub mark : (d : ℕ) → markIn words (2 * org ts d)
-  pub vertex : (d : ℕ) → vertexIn words (org ts d)
-  pub dart : (d : ℕ) → d < length ts → dartIn words d
-  pub link : (d : ℕ) → d < length ts → dartIn words (prev d)
+-- ---- the lists are filled
 
--- ten words for each vertex are enough
-pub room : (n T words : ℕ) (ts : List ℕ) → ((d : ℕ) → org ts d < n) → length ts ≡ 3 * T → T ≤ 2 * n → 10 * n ≤ words → Room ts words
-room n T words ts small whole h l = record {
-  mark = λ d. omega (arith, small d);
-  vertex = λ d. omega (arith, small d);
-  dart = λ d k. omega arith;
-  link = λ d k. omega (arith, prev-below T d (omega arith));
-}
+-- dart d has room in front of its origin's list
+pub record Pushing (ts : List ℕ) (s : List ℤ) (d : ℕ) : Type 0 where
+  pub dart : d < length ts
+  pub place : dartIn (length s) d
+  pub small : d < 65536
+  pub vertex : vertexIn (length s) (org ts d)
+  pub number : incidence s .number (org ts d) + 1 < 65536
 
--- room for the mark of a dart of v, and for the opposites of the darts that arrive there
-pub record AtVertex (ts : List ℕ) (words v : ℕ) : Type 0 where
-  pub space : Room ts words
+-- the number of its origin's darts, as the code reads it
+pub pushing-number : (ts : List ℕ) (s : List ℤ) (d v k : ℕ) → Pushing ts s d → v ≡ org ts d → k ≡ incidence s .number v → k + 1 < 65536
+pushing-number ts s d v k P q r = let o : k ≡ incidence s .number (org ts d) = r ∙ ap (incidence s .number) q in rw o (P .number)
+
+-- the three darts from d on have
+pub record PushingThree (ts : List ℕ) (s : List ℤ) (d : ℕ) : Type 0 where
+  pub first : d % 3 ≡ 0
+  pub three : d + 3 ≤ length ts
+  pub few : length ts < 65536
+  pub darts : length ts ≤ pastDarts (length s)
+  pub vertex : (e : ℕ) → vertexIn (length s) (org ts e)
+  pub count : Counted ts (d + 3) (incidence s)
+
+-- every dart has, and the lists are empty
+pub record Filling (ts : List ℕ) (s : List ℤ) : Type 0 where
+  pub whole : length ts % 3 ≡ 0
+  pub few : length ts < 65536
+  pub darts : length ts ≤ pastDarts (length s)
+  pub vertex : (d : ℕ) → vertexIn (length s) (org ts d)
+  pub empty : Empty (incidence s)
+
+-- the two stores that put a dart in front
+pub pushed : (ts : List ℕ) (d : ℕ) (s s₁ s₂ : List ℤ) (v f k : ℕ) → v ≡ org ts d → f ≡ incidence s .first v → k ≡ incidence s .number v
+    → incidence s₁ ≡ setDart d f v (incidence s) → incidence s₂ ≡ setList v d (k + 1) (incidence s₁)
+    → incidence s₂ ≡ push ts d (incidence s)
+unfolding push
+pushed ts d s s₁ s₂ v f k a b c x y = rw (y, x, b, c, a)
+
+-- ---- the sides are matched
+
+-- Dart e of vertex v has its word, and so have d, a dart beside it, and the origin of d.
+pub record Beside (s : List ℤ) (v e d : ℕ) : Type 0 where
+  pub dart : dartIn (length s) e
+  pub few : e < 65536
+  pub other : dartIn (length s) d
+  pub vertex : vertexIn (length s) (incidence s .origin d)
   pub small : v < 2 ^ 32
 
--- room for those of n vertices, whose first darts are darts
-pub record Ready (ts : List ℕ) (s : List ℤ) (n : ℕ) : Type 0 where
-  pub space : Room ts (length s)
+-- where d comes from, as the code reads it
+pub beside-vertex : (s : List ℤ) (v e d x w : ℕ) → Beside s v e d → x ≡ d → w ≡ incidence s .origin x → vertexIn (length s) w
+beside-vertex s v e d x w B q r = let o : w ≡ incidence s .origin d = r ∙ ap (incidence s .origin) q in rw o (B .vertex)
+
+-- vertex v has its word, and all is in range
+pub record AtVertex (s : List ℤ) (v : ℕ) : Type 0 where
+  pub triangles : ℕ
+  pub bounds : Bounded triangles (length s) (incidence s)
+  pub vertex : vertexIn (length s) v
+  pub small : v < 2 ^ 32
+
+-- n vertices have
+pub record Ready (n : ℕ) (s : List ℤ) : Type 0 where
+  pub triangles : ℕ
+  pub bounds : Bounded triangles (length s) (incidence s)
+  pub vertices : n ≤ column (length s)
   pub small : n < 2 ^ 32
-  pub heads : (v : ℕ) → tablesOf s .head v < 2 ^ 62
 
-pub ready-at : {ts : List ℕ} {s : List ℤ} {n : ℕ} (s′ : List ℤ) (v : ℕ) → Ready ts s n → v < n → length s′ ≡ length s →
-    AtVertex ts (length s′) v
-ready-at s′ v R h l = record { space = rw l (R .space); small = omega (arith, R .small) }
+module _ {T v e : ℕ} (s : List ℤ) (B : Bounded T (length s) (incidence s)) (h : e < 3 * T) (small : v < 2 ^ 32) where
+  pub beside-next : Beside s v e (next e)
+  beside-next = let p = bounded-next B e h in
+      record { dart = omega (arith, B .room); few = omega (arith, B .few); other = p .0; vertex = p .1; small = small }
 
-pub ready-kept : {ts : List ℕ} {s : List ℤ} {n : ℕ} (s′ : List ℤ) → Ready ts s n → length s′ ≡ length s →
-    tablesOf s′ .head ≡ tablesOf s .head → Ready ts s′ n
-ready-kept s′ R l e = record { space = rw l (R .space); small = R .small; heads = λ v. rw e (R .heads v) }
+  pub beside-prev : Beside s v e (prev e)
+  beside-prev = let p = bounded-prev B e h in
+      record { dart = omega (arith, B .room); few = omega (arith, B .few); other = p .0; vertex = p .1; small = small }
 
-pub prev-small : (h e : ℕ) → e ≡ prev h → h < 2 ^ 62 → e < 2 ^ 63
-unfolding prev
-prev-small h e q l = omega arith
-
--- room to put dart d in front of its origin's list
-pub record Pushing (ts : List ℕ) (s : List ℤ) (d : ℕ) : Type 0 where
-  pub space : Room ts (length s)
-  pub dart : d < length ts
-  pub count : Counted ts (suc d) (tablesOf s)
-  pub heads : Headed ts (tablesOf s)
-  pub few : length ts < 2 ^ 62
-
-pub record Filling (ts : List ℕ) (s : List ℤ) : Type 0 where
-  pub space : Room ts (length s)
-  pub count : Counted ts (length ts) (tablesOf s)
-  pub heads : Headed ts (tablesOf s)
-  pub few : length ts < 2 ^ 62
-
--- row 3, dart by dart
-pub row3-darts : (n : ℕ) (ts : List ℕ) → any (λ d. leb n (org ts d)) (upto (length ts)) ≡ row3 ts n
-unfolding row3 org
-row3-darts n ts =
-    go (any (leb n) ts) refl
-  where
-    go : (b : Bool) → any (leb n) ts ≡ b → any (λ d. leb n (getD ts d 0)) (upto (length ts)) ≡ any (leb n) ts
-    go true e =
-        let r = any-true (leb n) ts e in
-        let i = in-getD 0 (r .1) in
-        true-any (λ d. leb n (getD ts d 0)) (in-upto (length ts) (i .0) (i .1)) (ap (leb n) (i .2) ∙ r .2) ∙ sym e
-    go false e =
-        false-any (λ d. leb n (getD ts d 0)) (upto (length ts)) (λ d m. any-false (leb n) ts e (getD-in ts d 0 (upto-in (length ts) m))) ∙ sym e
-
--- the three stores that put a dart in front
-pub pushed : (ts : List ℕ) (d : ℕ) (s s₁ s₂ s₃ : List ℤ) (v e h g k : ℕ) → v ≡ org ts d → e ≡ prev d → h ≡ tablesOf s .head v →
-    g ≡ prev h → k ≡ tablesOf s .count v
-    → tablesOf s₁ ≡ setOp e g (tablesOf s) → tablesOf s₂ ≡ setHead v d (tablesOf s₁) → tablesOf s₃ ≡ setCount v (k + 1) (tablesOf s₂)
-    → tablesOf s₃ ≡ push ts d (tablesOf s)
-unfolding push
-pushed ts d s s₁ s₂ s₃ v e h g k a b p r q x y z = rw (z, y, x, r, p, q, b, a)
+-- where the lists are filled, all is in range
+pub filled-ready : (n T : ℕ) (ts : List ℕ) (s s′ : List ℤ) → Filling ts s → length ts ≡ 3 * T → 0 < T → n ≤ column (length s) → n < 2 ^ 32 →
+    length s′ ≡ length s → incidence s′ ≡ fill ts (length ts) (incidence s) → Ready n s′
+filled-ready n T ts s s′ F whole some vertices small l e = record {
+  triangles = T;
+  bounds =
+      rw (l, e) (fill-bounded ts (incidence s) (F .empty) (omega arith) T (length s) whole (omega (arith, F .darts)) (omega (arith, F .few)) (F .vertex));
+  vertices = omega arith;
+  small = small;
+}

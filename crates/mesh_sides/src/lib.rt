@@ -1,49 +1,66 @@
 // Rows 3 to 6 of the table of refusals. Sides are matched through the lists of darts by origin: the darts that leave a vertex leave their marks at
-// the vertices that they lead to, and those that arrive find their opposites there. Each dart is met a fixed number of times.
-use scratch_tables::get_count;
-use scratch_tables::get_head;
-use scratch_tables::get_mark;
-use scratch_tables::get_op;
+// the vertices that they lead to, and then each of them finds where the dart before it comes from the opposite of that one. Each dart is met a fixed
+// number of times. The triangles are read until the lists are filled; from there on origins stand in scratch.
+use mesh_rings::ring_row;
+use mesh_tables::dart_number;
+use mesh_tables::first_dart;
+use mesh_tables::mark;
+use mesh_tables::origin;
+use mesh_tables::set_dart;
+use mesh_tables::set_list;
+use mesh_tables::set_mark;
+use mesh_tables::set_turn;
+use mesh_tables::turn;
 use scratch_tables::next_dart;
-use scratch_tables::origin;
 use scratch_tables::prev_dart;
-use scratch_tables::set_count;
-use scratch_tables::set_head;
-use scratch_tables::set_mark;
-use scratch_tables::set_op;
 ghost use mathlib.Core.Path.{_≡_};
-ghost use Prim.Native.Nat.{_%_, _<_, _^_};
+ghost use Prim.Native.Nat.{_+_, _%_, _<_, max};
 ghost use lib.ListN.{length};
-ghost use Rattle.definitions.specs.Mesh.{next, row3, row4};
-ghost use Rattle.scratch_tables.specs.Tables.{tablesOf};
-ghost use Rattle.mesh_model.specs.IncidenceLists.{push, fill};
-ghost use Rattle.mesh_sides.specs.Room.{AtVertex, Ready, Pushing, Filling};
-ghost use Rattle.mesh_sides.specs.LoopInvariants.{Left, Marked, Scanned, Met, Tied, AllMatched};
+ghost use Rattle.definitions.specs.Mesh.{next, prev, org, row3};
+ghost use Rattle.mesh_tables.specs.Incidence.{incidence};
+ghost use Rattle.mesh_model.specs.IncidenceLists.{push};
+ghost use Rattle.mesh_sides.specs.Room.{Pushing, PushingThree, Filling, Beside, AtVertex, Ready};
+ghost use Rattle.mesh_sides.specs.LoopInvariants.{ThreePushed, AllFilled, Left, Marked, Scanned, Met, Tied, AllMatched};
 ghost use Rattle.mesh_sides.specs.RepeatedVertex.{repeatedAt};
 
-// row 3: a vertex number n or more
+// the vertex at corner d
+fn corner(triangles: &[u16], d: usize) -> usize
+    requires { ⌜ d < length (now triangles) ⌝ }
+    ensures is { λ r. ⌜ r ≡ org (now (triangles .entry)) d ⌝ }
+    ensures small { λ r. ⌜ r < 65536 ⌝ }
+{
+    int64::widen(triangles[d])
+}
+
+// the larger of two vertex numbers
+fn larger(a: u16, b: u16) -> u16
+    ensures { λ r. ⌜ r ≡ max a b ⌝ }
+{
+    if a < b { b } else { a }
+}
+
+// Row 3: a vertex number n or more. The highest of all is found first, without a test at each of them.
 pub fn high_vertex(n: usize, triangles: &[u16]) -> bool
+    requires { ⌜ 0 < n ⌝ }
     ensures { λ r. ⌜ r ≡ row3 (now (triangles .entry)) n ⌝ }
 {
+    let mut highest: u16 = 0;
     let mut d = 0;
     while d < triangles.len() {
-        let v = origin(triangles, d);
-        if n <= v {
-            return true;
-        }
+        highest = larger(highest, triangles[d]);
         d += 1;
     }
-    false
+    n <= int64::widen(highest)
 }
 
 // A vertex is twice in the triangle of which d is the first dart.
 fn repeated_at(triangles: &[u16], d: usize) -> bool
-    requires { ⌜ (d % 3 ≡ 0) × (d < 2 ^ 62) ⌝ }
+    requires { ⌜ (d % 3 ≡ 0) × (d + 2 < length (now triangles)) ⌝ }
     ensures { λ r. ⌜ r ≡ repeatedAt (now (triangles .entry)) d ⌝ }
 {
-    let a = origin(triangles, d);
-    let b = origin(triangles, d + 1);
-    let c = origin(triangles, d + 2);
+    let a = corner(triangles, d);
+    let b = corner(triangles, d + 1);
+    let c = corner(triangles, d + 2);
     if a == b {
         return true;
     }
@@ -53,88 +70,87 @@ fn repeated_at(triangles: &[u16], d: usize) -> bool
     c == a
 }
 
-// row 4: a vertex twice in a triangle
-pub fn repeated_vertex(triangles: &[u16]) -> bool
-    requires { ⌜ (length (now triangles) % 3 ≡ 0) × (length (now triangles) < 2 ^ 62) ⌝ }
-    ensures { λ r. ⌜ r ≡ row4 (now (triangles .entry)) ⌝ }
+// Dart d goes to the front of its origin's list.
+fn push_dart(triangles: &[u16], s: &mut [i64], d: usize)
+    requires { ⌜ Pushing (now triangles) (now s) d ⌝ }
+    ensures { λ r. ⌜ incidence (now (s .exit)) ≡ push (now (triangles .entry)) d (incidence (now (s .entry))) ⌝ }
 {
-    let mut d = 0;
-    while d < triangles.len() {
-        if repeated_at(triangles, d) {
+    let v = corner(triangles, d);
+    let first = first_dart(s, v);
+    let number = dart_number(s, v);
+    set_dart(s, d, first, v);
+    set_list(s, v, d, number + 1);
+}
+
+// The darts of the triangle of which d is the first go to the front of their origins' lists, unless a vertex is twice in it: then the answer is true.
+fn push_triangle(triangles: &[u16], s: &mut [i64], d: usize) -> bool
+    requires { ⌜ PushingThree (now triangles) (now s) d ⌝ }
+    ensures { λ r. ⌜ ThreePushed (now (triangles .entry)) (now (s .entry)) (now (s .exit)) d r ⌝ }
+{
+    if repeated_at(triangles, d) {
+        return true;
+    }
+    push_dart(triangles, s, d + 2);
+    push_dart(triangles, s, d + 1);
+    push_dart(triangles, s, d);
+    false
+}
+
+// Row 4, a vertex twice in a triangle; or the lists of darts by origin, each in the order of the darts.
+pub fn fill_incidence_lists(triangles: &[u16], s: &mut [i64]) -> bool
+    requires { ⌜ Filling (now triangles) (now s) ⌝ }
+    ensures { λ r. ⌜ AllFilled (now (triangles .entry)) (now (s .entry)) (now (s .exit)) r ⌝ }
+{
+    let mut d = triangles.len();
+    while 0 < d {
+        d -= 3;
+        if push_triangle(triangles, s, d) {
             return true;
         }
-        d += 3;
     }
     false
 }
 
-// Dart d goes to the front of its origin's list.
-fn push_dart(triangles: &[u16], s: &mut [i64], d: usize)
-    requires { ⌜ Pushing (now triangles) (now s) d ⌝ }
-    ensures { λ r. ⌜ tablesOf (now (s .exit)) ≡ push (now (triangles .entry)) d (tablesOf (now (s .entry))) ⌝ }
+// Dart e, which leaves v, leaves its mark where it leads; true, where a mark of v is there already.
+fn mark_neighbour(s: &mut [i64], v: usize, e: usize) -> bool
+    requires { ⌜ Beside (now s) v e (next e) ⌝ }
+    ensures { λ r. ⌜ Left (now (s .entry)) (now (s .exit)) v e r ⌝ }
 {
-    let v = origin(triangles, d);
-    let first = get_head(s, v);
-    let count = get_count(s, v);
-    set_op(s, prev_dart(d), prev_dart(first));
-    set_head(s, v, d);
-    set_count(s, v, count + 1);
-}
-
-// the lists of darts by origin, each in the order of the darts
-pub fn fill_incidence_lists(triangles: &[u16], s: &mut [i64])
-    requires { ⌜ Filling (now triangles) (now s) ⌝ }
-    ensures { λ r. ⌜ tablesOf (now (s .exit)) ≡ fill (now (triangles .entry)) (length (now (triangles .entry))) (tablesOf (now (s .entry))) ⌝ }
-{
-    let mut d = triangles.len();
-    while 0 < d {
-        d -= 1;
-        push_dart(triangles, s, d);
-    }
-}
-
-// The dart after e, which leaves v, leaves its mark where it leads; true, where a mark of v is there already.
-fn mark_neighbour(triangles: &[u16], s: &mut [i64], v: usize, e: usize) -> bool
-    requires { ⌜ AtVertex (now triangles) (length (now s)) v × (e < 2 ^ 63) ⌝ }
-    ensures { λ r. ⌜ Left (now (triangles .entry)) (now (s .entry)) (now (s .exit)) v (next e) r ⌝ }
-{
-    let w = origin(triangles, prev_dart(e));
-    let m = get_mark(s, 2 * w);
+    let w = origin(s, next_dart(e));
+    let m = mark(s, w);
     if m / 65536 == v + 1 {
         return true;
     }
-    let d = next_dart(e);
-    set_mark(s, 2 * w, 65536 * (v + 1) + d % 65536);
+    set_mark(s, w, 65536 * (v + 1) + e);
     false
 }
 
 // The darts that leave v leave their marks; true, where a side is there twice.
-fn mark_outgoing(triangles: &[u16], s: &mut [i64], v: usize) -> bool
-    requires { ⌜ AtVertex (now triangles) (length (now s)) v × (tablesOf (now s) .head v < 2 ^ 62) ⌝ }
-    ensures { λ r. ⌜ Marked (now (triangles .entry)) (now (s .entry)) (now (s .exit)) v r ⌝ }
+fn mark_outgoing(s: &mut [i64], v: usize) -> bool
+    requires { ⌜ AtVertex (now s) v ⌝ }
+    ensures { λ r. ⌜ Marked (now (s .entry)) (now (s .exit)) v r ⌝ }
 {
-    let k = get_count(s, v);
-    let h = get_head(s, v);
-    let mut e = prev_dart(h);
+    let k = dart_number(s, v);
+    let mut e = first_dart(s, v);
     let mut i = 0;
     while i < k {
-        if mark_neighbour(triangles, s, v, e) {
+        if mark_neighbour(s, v, e) {
             return true;
         }
-        e = get_op(s, e);
+        e = turn(s, e);
         i += 1;
     }
     false
 }
 
 // A side of a vertex u or later is there twice.
-fn duplicate_side(n: usize, triangles: &[u16], s: &mut [i64], u: usize) -> bool
-    requires { ⌜ Ready (now triangles) (now s) n ⌝ }
-    ensures { λ r. ⌜ Scanned (now (triangles .entry)) u n (now (s .entry)) (now (s .exit)) r ⌝ }
+fn duplicate_side(n: usize, s: &mut [i64], u: usize) -> bool
+    requires { ⌜ Ready n (now s) ⌝ }
+    ensures { λ r. ⌜ Scanned u n (now (s .entry)) (now (s .exit)) r ⌝ }
 {
     let mut v = u;
     while v < n {
-        if mark_outgoing(triangles, s, v) {
+        if mark_outgoing(s, v) {
             return true;
         }
         v += 1;
@@ -142,35 +158,32 @@ fn duplicate_side(n: usize, triangles: &[u16], s: &mut [i64], u: usize) -> bool
     false
 }
 
-// Dart e, which arrives at v, finds the mark of its opposite where it comes from, and stores it in place of its link; false, where there is none.
-fn match_dart(triangles: &[u16], s: &mut [i64], v: usize, e: usize) -> bool
-    requires { ⌜ AtVertex (now triangles) (length (now s)) v ⌝ }
-    ensures { λ r. ⌜ Met (now (triangles .entry)) (now (s .entry)) (now (s .exit)) v (next e) r ⌝ }
+// Dart e, which leaves v, finds the mark of its turn where the dart before it comes from, and stores it in place of its link; false, where there is none.
+fn match_dart(s: &mut [i64], v: usize, e: usize) -> bool
+    requires { ⌜ Beside (now s) v e (prev e) ⌝ }
+    ensures { λ r. ⌜ Met (now (s .entry)) (now (s .exit)) v e r ⌝ }
 {
-    if e < triangles.len() {
-        let w = origin(triangles, e);
-        let m = get_mark(s, 2 * w);
-        if m / 65536 == v + 1 {
-            set_op(s, e, m % 65536);
-            return true;
-        }
-        return false;
+    let d = prev_dart(e);
+    let w = origin(s, d);
+    let m = mark(s, w);
+    if m / 65536 == v + 1 {
+        set_turn(s, e, m % 65536);
+        return true;
     }
     false
 }
 
-// The darts that arrive at v find their opposites; true, where one is lacking.
-fn match_incoming(triangles: &[u16], s: &mut [i64], v: usize) -> bool
-    requires { ⌜ AtVertex (now triangles) (length (now s)) v × (tablesOf (now s) .head v < 2 ^ 62) ⌝ }
-    ensures { λ r. ⌜ Tied (now (triangles .entry)) (now (s .entry)) (now (s .exit)) v r ⌝ }
+// The darts that leave v find their turns; true, where an opposite is lacking.
+fn match_incoming(s: &mut [i64], v: usize) -> bool
+    requires { ⌜ AtVertex (now s) v ⌝ }
+    ensures { λ r. ⌜ Tied (now (s .entry)) (now (s .exit)) v r ⌝ }
 {
-    let k = get_count(s, v);
-    let h = get_head(s, v);
-    let mut e = prev_dart(h);
+    let k = dart_number(s, v);
+    let mut e = first_dart(s, v);
     let mut i = 0;
     while i < k {
-        let link = get_op(s, e);
-        if match_dart(triangles, s, v, e) {
+        let link = turn(s, e);
+        if match_dart(s, v, e) {
             e = link;
             i += 1;
         } else {
@@ -180,24 +193,26 @@ fn match_incoming(triangles: &[u16], s: &mut [i64], v: usize) -> bool
     false
 }
 
-// Row 5, a side twice, or row 6, a side lacks its opposite; or 0, and the opposites are stored. Where an opposite is lacking the search for a side
-// twice goes on alone.
-pub fn match_sides(n: usize, triangles: &[u16], s: &mut [i64]) -> usize
-    requires { ⌜ Ready (now triangles) (now s) n ⌝ }
-    ensures { λ r. ⌜ AllMatched (now (triangles .entry)) n (now (s .entry)) (now (s .exit)) r ⌝ }
+// Row 5, a side twice, or row 6, a side lacks its opposite; or the turns are stored, and the answer is 7 where a vertex has not one ring, and else 0.
+// The ring of a vertex is walked right after its darts have found their turns. Where an opposite is lacking the search for a side twice goes on alone.
+pub fn match_sides(n: usize, s: &mut [i64]) -> usize
+    requires { ⌜ Ready n (now s) ⌝ }
+    ensures { λ r. ⌜ AllMatched n (now (s .entry)) (now (s .exit)) r ⌝ }
 {
     let mut v = 0;
+    let mut row = 0;
     while v < n {
-        if mark_outgoing(triangles, s, v) {
+        if mark_outgoing(s, v) {
             return 5;
         }
-        if match_incoming(triangles, s, v) {
-            if duplicate_side(n, triangles, s, v + 1) {
+        if match_incoming(s, v) {
+            if duplicate_side(n, s, v + 1) {
                 return 5;
             }
             return 6;
         }
+        row = ring_row(s, v, row);
         v += 1;
     }
-    0
+    row
 }

@@ -7,6 +7,7 @@ use mathlib.Core.Bool.{Bool, true, false}
 use mathlib.Core.List.{List}
 use native.Mathlib.Omega.{arith}
 use native.Mathlib.Nat.{le-trans, mul-le-mul}
+use lib.ListN.{length}
 use lib.IntN.{ℤ, pos, natAbs, _+ℤ_, _-ℤ_, _*ℤ_}
 use lib.Signed.{mag, leZ}
 use mir.Syntax.{w64}
@@ -21,6 +22,10 @@ use Rattle.laws.specs.Sums.{abs-+}
 use Rattle.int64.specs.Whole.{abs-minus, held, held-size}
 use Rattle.maps_limits.specs.Limits.{coordinate-range}
 use Rattle.theory_realizer.specs.Units.{vertexAt}
+
+-- vertex i has its three coordinates
+abbrev pub CoordinatesIn : List ℤ → ℕ → Type 0
+CoordinatesIn bs i = 3 * i + 2 < length bs
 
 -- the growth of coordinate c from p to q, times that of coordinate e from p to r
 unfoldable pub productOf : List ℤ → ℕ → ℕ → ℕ → ℕ → ℕ → ℤ

@@ -7,15 +7,15 @@ ghost use lib.IntN.{natAbs, _-ℤ_, _*ℤ_};
 ghost use Rattle.definitions.specs.Backward.{coordinate};
 ghost use Rattle.definitions.specs.Repair.{limit, maxZ};
 ghost use Rattle.definitions.specs.Refusals.{row10};
-ghost use Rattle.repair_area.specs.Areas.{areaOf, badOf, deficitOf, sumOf, excessOf, lastDeficitOf, raiseOf};
+ghost use Rattle.repair_area.specs.Areas.{CoordinatesIn, areaOf, badOf, deficitOf, sumOf, excessOf, lastDeficitOf, raiseOf};
 
 // a coordinate of a vertex
 fn coordinate_at(coordinates: &[i64], c: usize, i: usize) -> i64
-    requires { ⌜ (c < 3) × (i < 65536) × (row10 (now coordinates) ≡ false) ⌝ }
+    requires { ⌜ (c < 3) × CoordinatesIn (now coordinates) i × (row10 (now coordinates) ≡ false) ⌝ }
     ensures is { λ r. ⌜ r ≡ coordinate (now (coordinates .entry)) c i ⌝ }
     ensures small { λ r. ⌜ natAbs r ≤ limit ⌝ }
 {
-    int64::coordinate_of(coordinates, c, i)
+    maps_limits::coordinate_at(coordinates, c, i)
 }
 
 // (a - b) times (c - d)
@@ -30,7 +30,8 @@ fn product(a: i64, b: i64, c: i64, d: i64) -> i64
 }
 
 fn area_of(coordinates: &[i64], p: usize, q: usize, r: usize) -> i64
-    requires { ⌜ (p < 65536) × (q < 65536) × (r < 65536) × (row10 (now coordinates) ≡ false) ⌝ }
+    requires { ⌜ CoordinatesIn (now coordinates) p × CoordinatesIn (now coordinates) q × CoordinatesIn (now coordinates) r
+        × (row10 (now coordinates) ≡ false) ⌝ }
     ensures { λ x. ⌜ x ≡ areaOf (now (coordinates .entry)) p q r ⌝ }
 {
     let p0 = coordinate_at(coordinates, 0, p);
@@ -46,7 +47,8 @@ fn area_of(coordinates: &[i64], p: usize, q: usize, r: usize) -> i64
 
 // flat or turned
 pub fn bad_at(coordinates: &[i64], p: usize, q: usize, r: usize) -> bool
-    requires { ⌜ (p < 65536) × (q < 65536) × (r < 65536) × (row10 (now coordinates) ≡ false) ⌝ }
+    requires { ⌜ CoordinatesIn (now coordinates) p × CoordinatesIn (now coordinates) q × CoordinatesIn (now coordinates) r
+        × (row10 (now coordinates) ≡ false) ⌝ }
     ensures { λ x. ⌜ x ≡ badOf (now (coordinates .entry)) p q r ⌝ }
 {
     int64::at_most(area_of(coordinates, p, q, r), 0)
@@ -60,30 +62,31 @@ fn greater(a: i64, b: i64) -> i64
 
 // the greater coordinate c at vertices j and k, less that at vertex i
 fn deficit(coordinates: &[i64], c: usize, i: usize, j: usize, k: usize) -> i64
-    requires { ⌜ (c < 3) × (i < 65536) × (j < 65536) × (k < 65536) × (row10 (now coordinates) ≡ false) ⌝ }
+    requires { ⌜ (c < 3) × CoordinatesIn (now coordinates) i × CoordinatesIn (now coordinates) j × CoordinatesIn (now coordinates) k
+        × (row10 (now coordinates) ≡ false) ⌝ }
     ensures is { λ r. ⌜ r ≡ deficitOf (now (coordinates .entry)) c i j k ⌝ }
     ensures small { λ r. ⌜ natAbs r ≤ 2 * limit ⌝ }
 {
-    let y = int64::coordinate_of(coordinates, c, j);
-    let z = int64::coordinate_of(coordinates, c, k);
-    let x = int64::coordinate_of(coordinates, c, i);
+    let y = coordinate_at(coordinates, c, j);
+    let z = coordinate_at(coordinates, c, k);
+    let x = coordinate_at(coordinates, c, i);
     int64::minus(greater(y, z), x)
 }
 
 // coordinates 0 and 1 of vertex i together
 fn sum_at(coordinates: &[i64], i: usize) -> i64
-    requires { ⌜ (i < 65536) × (row10 (now coordinates) ≡ false) ⌝ }
+    requires { ⌜ CoordinatesIn (now coordinates) i × (row10 (now coordinates) ≡ false) ⌝ }
     ensures is { λ r. ⌜ r ≡ sumOf (now (coordinates .entry)) i ⌝ }
     ensures small { λ r. ⌜ natAbs r ≤ 2 * limit ⌝ }
 {
-    let x = int64::coordinate_of(coordinates, 0, i);
-    let y = int64::coordinate_of(coordinates, 1, i);
+    let x = coordinate_at(coordinates, 0, i);
+    let y = coordinate_at(coordinates, 1, i);
     int64::plus(x, y)
 }
 
 // by how much that is more at vertex j than at vertex i
 fn excess(coordinates: &[i64], i: usize, j: usize) -> i64
-    requires { ⌜ (i < 65536) × (j < 65536) × (row10 (now coordinates) ≡ false) ⌝ }
+    requires { ⌜ CoordinatesIn (now coordinates) i × CoordinatesIn (now coordinates) j × (row10 (now coordinates) ≡ false) ⌝ }
     ensures is { λ r. ⌜ r ≡ excessOf (now (coordinates .entry)) i j ⌝ }
     ensures small { λ r. ⌜ natAbs r ≤ 4 * limit ⌝ }
 {
@@ -94,7 +97,8 @@ fn excess(coordinates: &[i64], i: usize, j: usize) -> i64
 
 // the lack of coordinate 2, told by the two others
 fn last_deficit(coordinates: &[i64], p: usize, q: usize, r: usize) -> i64
-    requires { ⌜ (p < 65536) × (q < 65536) × (r < 65536) × (row10 (now coordinates) ≡ false) ⌝ }
+    requires { ⌜ CoordinatesIn (now coordinates) p × CoordinatesIn (now coordinates) q × CoordinatesIn (now coordinates) r
+        × (row10 (now coordinates) ≡ false) ⌝ }
     ensures is { λ x. ⌜ x ≡ lastDeficitOf (now (coordinates .entry)) p q r ⌝ }
     ensures small { λ x. ⌜ natAbs x ≤ 4 * limit ⌝ }
 {
@@ -105,7 +109,8 @@ fn last_deficit(coordinates: &[i64], p: usize, q: usize, r: usize) -> i64
 
 // 1 and the greatest of the three
 pub fn raise_of(coordinates: &[i64], p: usize, q: usize, r: usize) -> i64
-    requires { ⌜ (p < 65536) × (q < 65536) × (r < 65536) × (row10 (now coordinates) ≡ false) ⌝ }
+    requires { ⌜ CoordinatesIn (now coordinates) p × CoordinatesIn (now coordinates) q × CoordinatesIn (now coordinates) r
+        × (row10 (now coordinates) ≡ false) ⌝ }
     ensures is { λ x. ⌜ x ≡ raiseOf (now (coordinates .entry)) p q r ⌝ }
     ensures small { λ x. ⌜ natAbs x ≤ 4 * limit + 1 ⌝ }
 {

@@ -107,17 +107,10 @@ module _ (n : ℕ) (ts : List ℕ) (ws bs scratch : List ℤ) where
           record { answer = E .answer ∙ g .0; weights = E .weights ∙ g .1 .0; coordinates = E .coordinates ∙ g .1 .1 .0; zeros = g .1 .1 .1 }
 
   -- what the loop is called for
-  pub startable : (s : List ℤ) → Lengths n (length ts) (length scratch) (length ws) (length bs) → length s ≡ length scratch → row9 ws ≡ false →
-      Peeled n ts (labels n ts) s → StartPre n ts ws bs s
-  startable s L e light P =
-      record {
-        labels = labels n ts;
-        peeled = P;
-        weights = L .weights;
-        light = light;
-        coordinates = L .coordinates;
-        room = omega (arith, L .scratch);
-      }
+  pub startable : (s : List ℤ) → Lengths n (length ts) (length scratch) (length ws) (length bs) → row9 ws ≡ false → Peeled n ts (labels n ts) s
+      → StartPre n ws bs s
+  startable s L light P =
+      record { triangles = ts; labels = labels n ts; peeled = P; weights = L .weights; light = light; coordinates = L .coordinates }
 
   -- the whole call
   pub gives-run : (a : Answer ℕ) (ws′ bs′ : List ℤ) → Given n ts ws bs scratch a ws′ bs′ → (s z : List ℤ) → length s ≡ length scratch →

@@ -51,7 +51,7 @@ fn run_repair(
     if maps_limits::past_limit(weights) {
         return RepairAnswer::Refused(Refusal::Numbered(9));
     }
-    let end = repair_labelled(n, triangles, weights, coordinates, scratch);
+    let end = repair_labelled(n, weights, coordinates, scratch);
     ended(end)
 }
 

@@ -1,7 +1,6 @@
 -- What one raise asks and gives, as the code makes it, and what the whole loop asks. Assumes nothing.
 use Prim.Native.Nat.{ℕ, suc, _+_, _-_, _*_, _≤_, _<_}
 use mathlib.Core.Path.{_≡_, refl, sym, ap, _∙_}
-use mathlib.Core.Bool.{false}
 use mathlib.Core.List.{List}
 use native.Mathlib.Omega.{arith}
 use lib.ListN.{length, getD, set}
@@ -10,11 +9,11 @@ use Rattle.definitions.specs.Lists.{totalAbs}
 use Rattle.definitions.specs.Mesh.{weightsLength}
 use Rattle.definitions.specs.Forward.{weight, forward}
 use Rattle.definitions.specs.Repair.{limit, addTo}
-use Rattle.definitions.specs.Refusals.{row10}
 use Rattle.laws.specs.Lists.{getD-in, totalAbs-in, totalAbs-set}
 use Rattle.scratch_tables.specs.Tables.{tablesOf}
 use Rattle.repair_model.specs.Search.{raiseAt}
 use Rattle.repair_model.specs.Ready.{Ready}
+use Rattle.repair_search.specs.SearchLoops.{CornersIn}
 use Rattle.repair_update.specs.WalkLoop.{UpdatePre, WalkMoved}
 
 -- ---- weights
@@ -61,38 +60,38 @@ module _ (ws : List ℤ) (t sum : ℕ) (x : ℤ) (S : SumPre ws t sum x) where
 
 -- ---- one raise
 
-pub record RaisePre (n : ℕ) (ts : List ℕ) (ws bs s : List ℤ) (t sum : ℕ) : Type 0 where
+pub record RaisePre (n : ℕ) (ws bs s : List ℤ) (t sum : ℕ) : Type 0 where
   pub positive : 0 < t
   pub inside : t ≤ length ws
-  pub low : t < 65536
+  pub corners : CornersIn s bs t
   pub summed : sum ≡ totalAbs ws
   pub light : totalAbs ws ≤ limit
-  pub within : row10 bs ≡ false
   pub small : natAbs (raiseAt (tablesOf s) bs t) ≤ 2 * limit + 1
-  pub update-pre : UpdatePre n ts s bs t (raiseAt (tablesOf s) bs t)
+  pub update-pre : UpdatePre n s bs t (raiseAt (tablesOf s) bs t)
 
 -- r is the sum with the raise; past the limit nothing has changed, otherwise the raise is made
-pub record Tried (n : ℕ) (ts : List ℕ) (s ws bs ws′ bs′ : List ℤ) (t r : ℕ) : Type 0 where
+pub record Tried (n : ℕ) (s ws bs ws′ bs′ : List ℤ) (t r : ℕ) : Type 0 where
   pub sum : r ≡ totalAbs (addTo ws t (raiseAt (tablesOf s) bs t))
   pub kept : limit < r → (ws′ ≡ ws) × (bs′ ≡ bs)
-  pub made : r ≤ limit → (ws′ ≡ addTo ws t (raiseAt (tablesOf s) bs t)) × WalkMoved n ts (tablesOf s) t (raiseAt (tablesOf s) bs t) bs bs′
+  pub made : r ≤ limit → (ws′ ≡ addTo ws t (raiseAt (tablesOf s) bs t)) × WalkMoved n (tablesOf s) t (raiseAt (tablesOf s) bs t) bs bs′
 
-module _ (n : ℕ) (ts : List ℕ) (s ws bs : List ℤ) (t r : ℕ) (x : ℤ) (ex : x ≡ raiseAt (tablesOf s) bs t)
+module _ (n : ℕ) (s ws bs : List ℤ) (t r : ℕ) (x : ℤ) (ex : x ≡ raiseAt (tablesOf s) bs t)
     (er : r ≡ totalAbs (addTo ws t x)) where
-  pub tried-kept : limit < r → Tried n ts s ws bs ws bs t r
+  pub tried-kept : limit < r → Tried n s ws bs ws bs t r
   tried-kept h = record { sum = rw ex at er; kept = λ l. (refl, refl); made = λ l. absurd (omega arith) }
 
-  pub tried-made : (ws′ bs′ : List ℤ) → r ≤ limit → ws′ ≡ addTo ws t x → WalkMoved n ts (tablesOf s) t x bs bs′ →
-      Tried n ts s ws bs ws′ bs′ t r
+  pub tried-made : (ws′ bs′ : List ℤ) → r ≤ limit → ws′ ≡ addTo ws t x → WalkMoved n (tablesOf s) t x bs bs′ →
+      Tried n s ws bs ws′ bs′ t r
   tried-made ws′ bs′ h ew G = record { sum = rw ex at er; kept = λ l. absurd (omega arith); made = λ l. (rw ex at ew, rw ex at G) }
 
 -- ---- the whole loop
 
--- the coordinates are those of the weights, for some labels whose trace is stored
-pub record LoopPre (n : ℕ) (ts : List ℕ) (ws bs s : List ℤ) (sum : ℕ) : Type 0 where
+-- the coordinates are those of the weights, for some mesh and labels whose trace is stored
+pub record LoopPre (n : ℕ) (ws bs s : List ℤ) (sum : ℕ) : Type 0 where
+  pub triangles : List ℕ
   pub labels : List ℕ
-  pub ready : Ready n ts labels s
-  pub drawn : bs ≡ forward n ts labels ws
+  pub ready : Ready n triangles labels s
+  pub drawn : bs ≡ forward n triangles labels ws
   pub long : length ws ≡ weightsLength n
   pub summed : sum ≡ totalAbs ws
   pub light : totalAbs ws ≤ limit

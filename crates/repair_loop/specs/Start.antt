@@ -1,5 +1,5 @@
 -- How repair starts on a peeled mesh: its coordinates are drawn, its words packed, its preorders built, and the absolute values summed. Assumes nothing.
-use Prim.Native.Nat.{ℕ, _+_, _*_, _≤_, _<_}
+use Prim.Native.Nat.{ℕ, _+_, _≤_, _<_}
 use mathlib.Core.Path.{_≡_, sym}
 use mathlib.Core.Bool.{false}
 use mathlib.Core.List.{List}
@@ -9,21 +9,20 @@ use lib.ListN.{length, getD, drop-of-length-le}
 use lib.IntN.{ℤ, pos, natAbs}
 use borrow.Author.Tests.{ltb-false}
 use Rattle.definitions.specs.Lists.{totalAbs}
-use Rattle.definitions.specs.Mesh.{weightsLength, coordinatesLength, org}
+use Rattle.definitions.specs.Mesh.{weightsLength, coordinatesLength}
 use Rattle.definitions.specs.Forward.{forward}
 use Rattle.definitions.specs.Repair.{limit}
 use Rattle.definitions.specs.Refusals.{row9}
 use Rattle.laws.specs.Lists.{clash}
 use Rattle.scratch_tables.specs.Tables.{tablesOf}
 use Rattle.maps_limits.specs.Limits.{Summed, summed-more, summed-past}
-use Rattle.theory_crossings.specs.Tests.{named}
+use Rattle.labels_tables.specs.Peeling.{Peeling, peeling}
 use Rattle.labels_tables.specs.LabelledTables.{Peeled}
-use Rattle.repair_model.specs.RemovalOrder.{removed-below}
 use Rattle.repair_model.specs.PackedWords.{Packed, WalksPacked, withRim}
 use Rattle.repair_model.specs.PreorderWords.{Preordered}
 use Rattle.repair_model.specs.Ready.{Ready}
 use Rattle.repair_words.specs.LoopInvariants.{PackPre}
-use Rattle.repair_preorder.specs.ForestOfMesh.{org-below, rooted, ready}
+use Rattle.repair_preorder.specs.ForestOfMesh.{in-range, rooted, ready}
 use Rattle.repair_preorder.specs.RootedForest.{RootedForest}
 use Rattle.repair_loop.specs.OneRaise.{LoopPre}
 
@@ -43,50 +42,41 @@ total-all ws i sum h S = let r = rw (drop-of-length-le ws h) at (S .rest) in ome
 
 -- ---- what the loop is called for
 
-pub record StartPre (n : ℕ) (ts : List ℕ) (ws bs s : List ℤ) : Type 0 where
+pub record StartPre (n : ℕ) (ws bs s : List ℤ) : Type 0 where
+  pub triangles : List ℕ
   pub labels : List ℕ
-  pub peeled : Peeled n ts labels s
+  pub peeled : Peeled n triangles labels s
   pub weights : length ws ≡ weightsLength n
   pub light : row9 ws ≡ false
   pub coordinates : length bs ≡ coordinatesLength n
-  pub room : 10 * n ≤ length s
 
 -- its words can be packed
-pub pack-pre : (n : ℕ) (ts ls : List ℕ) (s : List ℤ) → Peeled n ts ls s → 10 * n ≤ length s → PackPre n s × (org ts 0 < n) × (org ts 2 < n)
-pack-pre n ts ls s P room =
-    let l = P .labelled in (
-      record {
-        some = l .sphere .least;
-        few = l .most;
-        room = room;
-        low = λ k h. omega (arith, removed-below (l .sphere) (P .realizer) (named ts) (tablesOf s) (P .stored) k h, l .most);
-      },
-      org-below P 0,
-      org-below P 2,
-    )
+pub pack-pre : (n : ℕ) (ws bs s : List ℤ) → StartPre n ws bs s → PackPre n s
+pack-pre n ws bs s S =
+    let l = S .peeled .labelled in
+    record { some = l .sphere .least; few = l .most; room = l .room; inside = in-range (S .peeled) }
 
 light-is : (ws : List ℤ) → row9 ws ≡ false → totalAbs ws ≤ limit
 unfolding row9
 light-is ws e = ltb-false limit (totalAbs ws) e
 
 -- s₁ has the words packed, s₂ the preorders built as well
-module _ (n : ℕ) (ts : List ℕ) (s s₁ s₂ : List ℤ) (L : Packed n ts (withRim ts (tablesOf s)) (tablesOf s₁))
-    (N : WalksPacked n (withRim ts (tablesOf s)) (tablesOf s₁))
-    (preordered : Packed n ts (withRim ts (tablesOf s)) (tablesOf s₁) → WalksPacked n (withRim ts (tablesOf s)) (tablesOf s₁) →
-    RootedForest n ts (withRim ts (tablesOf s)) → Preordered n ts (withRim ts (tablesOf s)) (tablesOf s₂)) where
-  pub all-ready : (ls : List ℕ) → Peeled n ts ls s → Ready n ts ls s₂
-  all-ready ls P = ready P s₂ (preordered L N (rooted P))
+module _ (n : ℕ) (s s₁ s₂ : List ℤ) (L : Packed n (withRim (peeling s)) (tablesOf s₁)) (N : WalksPacked n (withRim (peeling s)) (tablesOf s₁))
+    (built : (T : Peeling) → Packed n T (tablesOf s₁) → WalksPacked n T (tablesOf s₁) → RootedForest n T → Preordered n T (tablesOf s₂)) where
+  pub all-ready : (ts ls : List ℕ) → Peeled n ts ls s → Ready n ts ls s₂
+  all-ready ts ls P = ready P s₂ (built (withRim (peeling s)) L N (rooted P))
 
-  pub loop-pre : (ws bs bs′ : List ℤ) (sum : ℕ) (S : StartPre n ts ws bs s) → length s₂ ≡ length s → bs′ ≡ forward n ts (S .labels) ws →
+  pub loop-pre : (ws bs bs′ : List ℤ) (sum : ℕ) (S : StartPre n ws bs s) → length s₂ ≡ length s → bs′ ≡ forward n (S .triangles) (S .labels) ws →
       sum ≡ totalAbs ws →
-      LoopPre n ts ws bs′ s₂ sum
+      LoopPre n ws bs′ s₂ sum
   loop-pre ws bs bs′ sum S long drawn summed =
       record {
+        triangles = S .triangles;
         labels = S .labels;
-        ready = all-ready (S .labels) (S .peeled);
+        ready = all-ready (S .triangles) (S .labels) (S .peeled);
         drawn = drawn;
         long = S .weights;
         summed = summed;
         light = light-is ws (S .light);
-        room = omega (arith, S .room);
+        room = omega (arith, S .peeled .labelled .room);
       }

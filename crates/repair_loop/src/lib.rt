@@ -14,7 +14,6 @@ ghost use Rattle.repair_loop.specs.Answer.{Halts, Ends};
 ghost use mathlib.Core.Bool.{false};
 ghost use Rattle.definitions.specs.Refusals.{row9};
 ghost use Rattle.labels_tables.specs.LabelledTables.{Peeled};
-ghost use Rattle.repair_loop.specs.Answer.{Ends};
 ghost use Rattle.repair_loop.specs.Start.{StartPre};
 
 // How the loop ended, with the count of raises: no triangle is bad any more, or the next raise would break 9.
@@ -28,7 +27,7 @@ fn sum_after(weights: &[i64], t: usize, sum: usize, x: i64) -> usize
     requires { ⌜ SumPre (now weights) t sum x ⌝ }
     ensures { λ r. ⌜ r ≡ totalAbs (addTo (now (weights .entry)) t x) ⌝ }
 {
-    let w = int64::at(weights, t - 1);
+    let w = int64::get(weights, t - 1);
     let y = int64::plus(w, x);
     let old = int64::magnitude(w);
     let new = int64::magnitude(y);
@@ -38,16 +37,14 @@ fn sum_after(weights: &[i64], t: usize, sum: usize, x: i64) -> usize
 // Triangle t is raised, if the sum of the absolute values then stays within the limit. That sum is returned.
 fn try_raise(
     n: usize,
-    triangles: &[u16],
     weights: &mut [i64],
     coordinates: &mut [i64],
     scratch: &[i64],
     t: usize,
     sum: usize,
 ) -> usize
-    requires { ⌜ RaisePre n (now triangles) (now weights) (now coordinates) (now scratch) t sum ⌝ }
-    ensures { λ r. ⌜ Tried n (now (triangles .entry)) (now (scratch .entry)) (now (weights .entry)) (now (coordinates .entry)) (now (weights .exit))
-        (now (coordinates .exit)) t r ⌝ }
+    requires { ⌜ RaisePre n (now weights) (now coordinates) (now scratch) t sum ⌝ }
+    ensures { λ r. ⌜ Tried n (now (scratch .entry)) (now (weights .entry)) (now (coordinates .entry)) (now (weights .exit)) (now (coordinates .exit)) t r ⌝ }
 {
     let x = repair_search::raise_at(coordinates, scratch, t);
     let new = sum_after(weights, t, sum, x);
@@ -55,7 +52,7 @@ fn try_raise(
         return new;
     }
     repair_update::add_at(weights, t - 1, x);
-    repair_update::add_raise(n, triangles, coordinates, scratch, t, x);
+    repair_update::add_raise(n, coordinates, scratch, t, x);
     new
 }
 
@@ -71,16 +68,15 @@ fn extended_after(full: usize, t: usize) -> usize
 // not looked at again.
 fn raise_all(
     n: usize,
-    triangles: &[u16],
     weights: &mut [i64],
     coordinates: &mut [i64],
     scratch: &[i64],
     sum: usize,
 ) -> Ended
-    requires { ⌜ LoopPre n (now triangles) (now weights) (now coordinates) (now scratch) sum ⌝ }
-    ensures { λ r. ⌜ ((ls : List ℕ) → Ready n (now (triangles .entry)) ls (now (scratch .entry)) → now (coordinates .entry) ≡
-        forward n (now (triangles .entry)) ls (now (weights .entry)) →
-        Halts n (now (triangles .entry)) ls (now (weights .entry)) (now (weights .exit)) (now (coordinates .exit)) r) ⌝ }
+    requires { ⌜ LoopPre n (now weights) (now coordinates) (now scratch) sum ⌝ }
+    ensures { λ r. ⌜ ((ts ls : List ℕ) → Ready n ts ls (now (scratch .entry)) →
+        now (coordinates .entry) ≡ forward n ts ls (now (weights .entry)) →
+        Halts n ts ls (now (weights .entry)) (now (weights .exit)) (now (coordinates .exit)) r) ⌝ }
 {
     let end = 2 * n - 4;
     let mut total = sum;
@@ -88,7 +84,7 @@ fn raise_all(
     let mut full = 1;
     let mut t = repair_search::first_bad(coordinates, scratch, 1, end);
     while t < end {
-        let tried = try_raise(n, triangles, weights, coordinates, scratch, t, total);
+        let tried = try_raise(n, weights, coordinates, scratch, t, total);
         if tried > maps_limits::LIMIT {
             return Ended::Stopped(count);
         }
@@ -104,19 +100,19 @@ fn raise_all(
 // The loop on the lent weights, and their coordinates written.
 pub fn run_loop(
     n: usize,
-    triangles: &[u16],
     weights: &mut [i64],
     coordinates: &mut [i64],
     scratch: &[i64],
     sum: usize,
 ) -> Ended
-    requires { ⌜ LoopPre n (now triangles) (now weights) (now coordinates) (now scratch) sum ⌝ }
-    ensures { λ r. ⌜ ((ls : List ℕ) → Ready n (now (triangles .entry)) ls (now (scratch .entry)) → now (coordinates .entry) ≡
-        forward n (now (triangles .entry)) ls (now (weights .entry)) →
-        Ends n (now (triangles .entry)) ls (now (weights .entry)) (now (weights .exit)) (now (coordinates .exit)) r) ⌝ }
+    requires { ⌜ LoopPre n (now weights) (now coordinates) (now scratch) sum ⌝ }
+    ensures { λ r. ⌜ ((ts ls : List ℕ) → Ready n ts ls (now (scratch .entry)) →
+        now (coordinates .entry) ≡ forward n ts ls (now (weights .entry)) →
+        Ends n ts ls (now (weights .entry)) (now (weights .exit)) (now (coordinates .exit)) r) ⌝ }
 {
-    let ended = raise_all(n, triangles, weights, coordinates, scratch, sum);
-    maps_forward::write_thirds(n, triangles, coordinates);
+    let ended = raise_all(n, weights, coordinates, scratch, sum);
+    let v0 = labels_tables::origin(scratch, 0);
+    maps_forward::write_thirds(n, coordinates, v0);
     ended
 }
 
@@ -128,7 +124,7 @@ fn sum_of_absolutes(weights: &[i64]) -> usize
     let mut sum: usize = 0;
     let mut i = 0;
     while i < weights.len() {
-        sum += int64::size_at(weights, i);
+        sum += int64::magnitude(int64::get(weights, i));
         i += 1;
     }
     sum
@@ -137,18 +133,17 @@ fn sum_of_absolutes(weights: &[i64]) -> usize
 // The weights are repaired, and their coordinates written. What the lent coordinates hold before does not matter.
 pub fn repair_labelled(
     n: usize,
-    triangles: &[u16],
     weights: &mut [i64],
     coordinates: &mut [i64],
     scratch: &mut [i64],
 ) -> Ended
-    requires { ⌜ StartPre n (now triangles) (now weights) (now coordinates) (now scratch) ⌝ }
-    ensures { λ r. ⌜ ((ls : List ℕ) → Peeled n (now (triangles .entry)) ls (now (scratch .entry)) →
-        Ends n (now (triangles .entry)) ls (now (weights .entry)) (now (weights .exit)) (now (coordinates .exit)) r) ⌝ }
+    requires { ⌜ StartPre n (now weights) (now coordinates) (now scratch) ⌝ }
+    ensures { λ r. ⌜ ((ts ls : List ℕ) → Peeled n ts ls (now (scratch .entry)) →
+        Ends n ts ls (now (weights .entry)) (now (weights .exit)) (now (coordinates .exit)) r) ⌝ }
 {
-    maps_forward::write_coordinates(n, triangles, weights, coordinates, scratch);
-    repair_words::pack_words(n, triangles, scratch);
-    repair_preorder::build_preorders(n, triangles, scratch);
+    maps_forward::write_coordinates(n, weights, coordinates, scratch);
+    repair_words::pack_words(n, scratch);
+    repair_preorder::build_preorders(n, scratch);
     let sum = sum_of_absolutes(weights);
-    run_loop(n, triangles, weights, coordinates, scratch, sum)
+    run_loop(n, weights, coordinates, scratch, sum)
 }

@@ -1,6 +1,6 @@
 -- From a vertex that leaves to the two that its paths go on from: how often a walk crosses what lies between, and that neither is the other end, v1 for
 -- colour 0 and v0 for colour 1. Assumes nothing.
-use Prim.Native.Nat.{ℕ, _+_, _-_, _*_, _/_, _<_}
+use Prim.Native.Nat.{ℕ, suc, _+_, _-_, _*_, _/_, _<_}
 use mathlib.Core.Path.{_≡_, refl, sym, ap, _∙_, subst}
 use mathlib.Core.Logic.{_≢_}
 use mathlib.Core.List.{List}
@@ -20,9 +20,10 @@ use Rattle.theory_crossings.specs.Walks.{hits, hits-side}
 use Rattle.theory_crossings.specs.Paths.{meets-onward}
 use Rattle.theory_crossings.specs.Tests.{named, walking, pathing}
 use Rattle.theory_crossings.specs.UnitMaps.{crosses-once, units, at}
-use Rattle.scratch_tables.specs.Tables.{Tables}
+use Rattle.labels_tables.specs.Peeling.{Peeling}
 use Rattle.labels_tables.specs.LabelledTables.{Stored}
-use Rattle.repair_model.specs.RemovalOrder.{removedAt, RemovedVertex, leaves-at}
+use Rattle.repair_model.specs.RemovalOrder.{removedAt, up0, up1, From, RemovedVertex, leaves-at}
+use Rattle.repair_model.specs.Corners.{Describes}
 
 module _ {n : ℕ} (ts ls : List ℕ) (sph : Sphere n (length ts / 3) (org ts) (opp ts)) (size : length ts ≡ trianglesLength n)
     (R : Realizer n (length ts / 3) (org ts) (opp ts) (label ls) (outer ts)) where
@@ -127,13 +128,39 @@ module _ {n : ℕ} (ts ls : List ℕ) (sph : Sphere n (length ts / 3) (org ts) (
         zero-not-last (next g) (next-below (length ts / 3) g (a .below)) (omega (arith, tri-next g, a .inner)) (apex-labels sph R (named ts) a .0)
         (ap (org ts) f ∙ sym (tip-opp sph e h) ∙ q)
 
-  module _ (T : Tables) (stored : Stored n (length ts / 3) (org ts) (opp ts) T 0 (R .trace)) where
-    -- No vertex's path of colour 0 goes on to v1, and none of colour 1 to v0.
-    pub left-not-last : (k : ℕ) → k < n - 2 → tip ts (T .head (removedAt T k)) ≢ outer ts 1
-    unfolding tip
-    left-not-last k h = zero-points (T .head (removedAt T k)) (leaves-at sph R (named ts) T stored k h .colour0)
+  -- ---- the parents in tables that tell of the mesh
 
-    pub right-not-first : (k : ℕ) → k < n - 2 → org ts (T .count (removedAt T k)) ≢ outer ts 0
-    right-not-first k h e =
-        let L = leaves-at sph R (named ts) T stored k h in
-        one-points (opp ts (T .count (removedAt T k))) (L .colour1) (tip-opp sph (T .count (removedAt T k)) (L .below) ∙ e)
+  module _ (T : Peeling) (D : Describes ts ls T) (stored : Stored n (length ts / 3) (org ts) (opp ts) T 0 (R .trace)) (k : ℕ) (h : k < n - 2) where
+    leaves : RemovedVertex n (length ts / 3) (org ts) (opp ts) (label ls) (outer ts) (removedAt T) (T .left (removedAt T k)) (T .right (removedAt T k)) k
+        (removedAt T k)
+    leaves = leaves-at sph R (named ts) T stored k h
+
+    pub left-in : T .left (removedAt T k) < 3 * (length ts / 3)
+    left-in = points-below sph R (named ts) (leaves .colour0)
+
+    pub right-in : T .right (removedAt T k) < 3 * (length ts / 3)
+    right-in = leaves .below
+
+    pub up0-is : up0 T k ≡ tip ts (T .left (removedAt T k))
+    unfolding tip
+    up0-is = D .origins (next (T .left (removedAt T k))) (omega (arith, next-below (length ts / 3) (T .left (removedAt T k)) left-in, whole))
+
+    pub up1-is : up1 T k ≡ org ts (T .right (removedAt T k))
+    up1-is = D .origins (T .right (removedAt T k)) (omega (arith, right-in, whole))
+
+    -- they leave later or stay
+    pub later0 : From n (outer ts) (removedAt T) (suc k) (up0 T k)
+    unfolding tip
+    later0 = subst (From n (outer ts) (removedAt T) (suc k)) (sym up0-is) (leaves .later)
+
+    pub later1 : From n (outer ts) (removedAt T) (suc k) (up1 T k)
+    later1 = subst (From n (outer ts) (removedAt T) (suc k)) (sym up1-is) (leaves .later′)
+
+    -- No vertex's path of colour 0 goes on to v1, and none of colour 1 to v0.
+    pub left-not-last : up0 T k ≢ outer ts 1
+    unfolding tip
+    left-not-last e = zero-points (T .left (removedAt T k)) (leaves .colour0) (sym up0-is ∙ e)
+
+    pub right-not-first : up1 T k ≢ outer ts 0
+    right-not-first e =
+        one-points (opp ts (T .right (removedAt T k))) (leaves .colour1) (tip-opp sph (T .right (removedAt T k)) right-in ∙ sym up1-is ∙ e)

@@ -22,12 +22,19 @@ use Rattle.theory_realizer.specs.Realizer.{Points, Coloured, Realizer}
 use Rattle.theory_realizer.specs.Edges.{edge-org, edge-tip}
 use Rattle.theory_crossings.specs.Gaps.{new-darts, old-darts}
 use Rattle.theory_crossings.specs.Colours.{Named, stays, org-below}
-use Rattle.scratch_tables.specs.Tables.{Tables}
+use Rattle.labels_tables.specs.Peeling.{Peeling}
 use Rattle.labels_tables.specs.LabelledTables.{Stored}
 
 -- the vertex that leaves as the k-th
-abbrev pub removedAt : Tables → ℕ → ℕ
-removedAt t k = t .mark (2 * k + 1)
+abbrev pub removedAt : Peeling → ℕ → ℕ
+removedAt t k = t .order k
+
+-- its parents: where its dart to the left leads to, and where its dart from the right comes from
+abbrev pub up0 : Peeling → ℕ → ℕ
+up0 t k = t .origin (next (t .left (removedAt t k)))
+
+abbrev pub up1 : Peeling → ℕ → ℕ
+up1 t k = t .origin (t .right (removedAt t k))
 
 -- a vertex that stays to the end, as v0 or v1, or leaves as the k-th or later
 pub data From (n : ℕ) (v removedAt : ℕ → ℕ) (k i : ℕ) : Type 0 where
@@ -45,7 +52,7 @@ pub record RemovedVertex (n T : ℕ) (org opp label v removedAt : ℕ → ℕ) (
   pub later : From n v removedAt (suc k) (org (next left))
   pub later′ : From n v removedAt (suc k) (org right)
 
-module _ {T : ℕ} {org opp : ℕ → ℕ} (n : ℕ) (t : Tables) where
+module _ {T : ℕ} {org opp : ℕ → ℕ} (n : ℕ) (t : Peeling) where
   -- from step k on there are n - 2 - k vertices that leave
   stored-length : {C : List ℕ} (k : ℕ) (tr : Trace T org opp C) → Stored n T org opp t k tr → k + length (removedVertices T org opp tr) ≡ n - 2
   unfolding removedVertices
@@ -54,7 +61,7 @@ module _ {T : ℕ} {org opp : ℕ → ℕ} (n : ℕ) (t : Tables) where
 
   -- each of them has its place
   stored-in : {C : List ℕ} (k : ℕ) (tr : Trace T org opp C) → Stored n T org opp t k tr → {i : ℕ} → i ∈ removedVertices T org opp tr →
-      (j : ℕ) × (j < n - 2) × (t .mark (2 * j + 1) ≡ i)
+      (j : ℕ) × (j < n - 2) × (t .order j ≡ i)
   unfolding removedVertices
   stored-in k done q m = absurd (List·Memᴰ·not-nil m)
   stored-in k (step e e′ gs h o f s tr) q m =
@@ -63,7 +70,7 @@ module _ {T : ℕ} {org opp : ℕ → ℕ} (n : ℕ) (t : Tables) where
         | inr i ↦ stored-in (suc k) tr (q .3) i
       ]
 
-module _ {n T : ℕ} {org opp label v : ℕ → ℕ} (sph : Sphere n T org opp) (R : Realizer n T org opp label v) (named : Named org v) (t : Tables) where
+module _ {n T : ℕ} {org opp label v : ℕ → ℕ} (sph : Sphere n T org opp) (R : Realizer n T org opp label v) (named : Named org v) (t : Peeling) where
   weaker : {k i : ℕ} → From n v (removedAt t) (suc k) i → From n v (removedAt t) k i
   weaker (first e) = first e
   weaker (last e) = last e
@@ -101,7 +108,7 @@ module _ {n T : ℕ} {org opp label v : ℕ → ℕ} (sph : Sphere n T org opp) 
   -- what is stored of the j-th
   removed-at : {C : List ℕ} (k : ℕ) (tr : Trace T org opp C) → Stored n T org opp t k tr → Coloured T org opp label v tr → (j : ℕ) → k ≤ j →
       j < n - 2 →
-      RemovedVertex n T org opp label v (removedAt t) (t .head (removedAt t j)) (t .count (removedAt t j)) j (removedAt t j)
+      RemovedVertex n T org opp label v (removedAt t) (t .left (removedAt t j)) (t .right (removedAt t j)) j (removedAt t j)
   removed-at k done q c j l h = absurd (omega (arith, q))
   removed-at k (step e e′ gs h o f s tr) q c j l m =
       elim (ℕ-discrete j k) [
@@ -123,7 +130,7 @@ module _ {n T : ℕ} {org opp label v : ℕ → ℕ} (sph : Sphere n T org opp) 
       ]
 
   module _ (stored : Stored n T org opp t 0 (R .trace)) where
-    pub leaves-at : (j : ℕ) → j < n - 2 → RemovedVertex n T org opp label v (removedAt t) (t .head (removedAt t j)) (t .count (removedAt t j)) j
+    pub leaves-at : (j : ℕ) → j < n - 2 → RemovedVertex n T org opp label v (removedAt t) (t .left (removedAt t j)) (t .right (removedAt t j)) j
         (removedAt t j)
     leaves-at j h = removed-at 0 (R .trace) stored (R .colours) j (omega arith) h
 
@@ -135,7 +142,7 @@ module _ {n T : ℕ} {org opp label v : ℕ → ℕ} (sph : Sphere n T org opp) 
     removed-not0 j h e = let L = leaves-at j h in stays sph R named 0 (omega arith) (L .colour0) (L .from ∙ e)
 
     pub removed-not1 : (j : ℕ) → j < n - 2 → removedAt t j ≢ v 1
-    removed-not1 j h e = let L = leaves-at j h in stays sph R named 1 (omega arith) (L .colour1) (sph .reverses (t .count (removedAt t j)) (L .below)
+    removed-not1 j h e = let L = leaves-at j h in stays sph R named 1 (omega arith) (L .colour1) (sph .reverses (t .right (removedAt t j)) (L .below)
         ∙ L .to
         ∙ e)
 
@@ -215,15 +222,15 @@ module _ {n T : ℕ} {org opp label v : ℕ → ℕ} (sph : Sphere n T org opp) 
 
 -- ---- other tables with the same trace
 
-module _ {T : ℕ} {org opp : ℕ → ℕ} (n : ℕ) (t t′ : Tables) (same : (k : ℕ) → removedAt t′ k ≡ removedAt t k) (left : (k : ℕ) →
-    k < n - 2 → t′ .head (removedAt t k) ≡ t .head (removedAt t k))
-    (right : (k : ℕ) → k < n - 2 → t′ .count (removedAt t k) ≡ t .count (removedAt t k)) where
+module _ {T : ℕ} {org opp : ℕ → ℕ} (n : ℕ) (t t′ : Peeling) (same : (k : ℕ) → removedAt t′ k ≡ removedAt t k) (left : (k : ℕ) →
+    k < n - 2 → t′ .left (removedAt t k) ≡ t .left (removedAt t k))
+    (right : (k : ℕ) → k < n - 2 → t′ .right (removedAt t k) ≡ t .right (removedAt t k)) where
   pub stored-same : {C : List ℕ} (k : ℕ) (tr : Trace T org opp C) → Stored n T org opp t k tr → Stored n T org opp t′ k tr
   stored-same k done q = q
   stored-same k (step e e′ gs h o f s tr) q =
       let l : k < n - 2 = omega (arith, stored-length n t (suc k) tr (q .3)) in (
         same k ∙ q .0,
-        ap (t′ .head) (sym (q .0)) ∙ left k l ∙ ap (t .head) (q .0) ∙ q .1,
-        ap (t′ .count) (sym (q .0)) ∙ right k l ∙ ap (t .count) (q .0) ∙ q .2,
+        ap (t′ .left) (sym (q .0)) ∙ left k l ∙ ap (t .left) (q .0) ∙ q .1,
+        ap (t′ .right) (sym (q .0)) ∙ right k l ∙ ap (t .right) (q .0) ∙ q .2,
         stored-same (suc k) tr (q .3),
       )

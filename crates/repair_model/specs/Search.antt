@@ -11,23 +11,24 @@ use lib.Dec.{eqb}
 use lib.ListN.{length}
 use lib.IntN.{ℤ, _+ℤ_}
 use borrow.Author.Tests.{ne-eqb}
-use Rattle.definitions.specs.Mesh.{trianglesLength, tri, next, prev, org, tip, opp}
+use Rattle.definitions.specs.Mesh.{trianglesLength, tri, next, prev, org, opp}
 use Rattle.definitions.specs.Labels.{outer, label, corner}
 use Rattle.definitions.specs.Backward.{coordinate}
 use Rattle.definitions.specs.Repair.{bad, raise}
 use Rattle.laws.specs.Lists.{_∈_, tested}
 use Rattle.theory_sphere.specs.Sphere.{Sphere}
-use Rattle.theory_sphere.specs.Darts.{next-next, next-prev, next-below, prev-below}
+use Rattle.theory_sphere.specs.Darts.{next-next, next-prev, next-below, prev-below, tri-below}
 use Rattle.theory_realizer.specs.Realizer.{Realizer}
 use Rattle.theory_realizer.specs.Units.{vertexAt}
 use Rattle.theory_repair.specs.RegionBorders.{walkTriangles-on}
 use Rattle.theory_repair.specs.AllWalks.{beyond, walkTriangles}
 use Rattle.scratch_tables.specs.Tables.{Tables}
-use Rattle.labels_tables.specs.LabelledTables.{oppositeIn, labelIn, apexDart}
+use Rattle.labels_tables.specs.Peeling.{Peeling}
+use Rattle.labels_tables.specs.LabelledTables.{oppositeIn, apexDart}
 use Rattle.repair_area.specs.Areas.{badOf, raiseOf, Agree, bad-of, raise-of}
-use Rattle.repair_model.specs.PackedWords.{dart-low, pack, field0, field1, field2, field0-is, field1-is, field2-is, walkDart, endFlags}
-use Rattle.repair_model.specs.PackedWords.{cornerWord, otherWalksWord}
-use Rattle.repair_model.specs.Corners.{apex-is, apex-below}
+use Rattle.scratch_tables.specs.Fields.{pack, field0, field1, field2, field0-is, field1-is, field2-is}
+use Rattle.repair_model.specs.PackedWords.{walkDart, walkFrom, walkTo, walkFlags, cornerWord, otherWalksWord}
+use Rattle.repair_model.specs.Corners.{Describes, apex-is, apex-below, origins-are, comes}
 use Rattle.repair_model.specs.PreorderWords.{moveWord, Preordered}
 
 -- triangle t is bad; the raise that it asks for
@@ -92,29 +93,28 @@ unfolding field0 pack
 lowest a b c d w e h = omega arith
 
 -- where the colour-2 walk goes, whichever subtree its word tells of
-move-to : (ts : List ℕ) (T : Tables) (from0 size0 from1 size1 : ℕ → ℕ) (t w : ℕ) → w ≡ moveWord ts T from0 size0 from1 size1 t →
-    field0 w ≡ tri (walkDart (T .op) t)
+move-to : (T : Peeling) (from0 size0 from1 size1 : ℕ → ℕ) (t w : ℕ) → tri (walkDart T t) < 65536 → w ≡ moveWord T from0 size0 from1 size1 t →
+    field0 w ≡ tri (walkDart T t)
 unfolding moveWord
-move-to ts T from0 size0 from1 size1 t w e =
-    let o = walkDart (T .op) t in
-    let a = org ts o in
-    let b = tip ts o in
-    let f = endFlags T o a b in
-    let l : tri o < 65536 = dart-low (T .op) (next (apexDart (T .op) t)) in
+move-to T from0 size0 from1 size1 t w l e =
+    let o = tri (walkDart T t) in
+    let a = walkFrom T t in
+    let b = walkTo T t in
+    let f = walkFlags T t in
     elim (tested (eqb f 1)) [
-      | inl p ↦ lowest (tri o) (from0 a) (size0 a) 1 w (e ∙ rw p) l
+      | inl p ↦ lowest o (from0 a) (size0 a) 1 w (e ∙ rw p) l
       | inr p ↦
           elim (tested (eqb f 2)) [
-            | inl q ↦ lowest (tri o) (from1 b) (size1 b) 2 w (e ∙ rw (p, q)) l
-            | inr q ↦ lowest (tri o) a b f w (e ∙ rw (p, q)) l
+            | inl q ↦ lowest o (from1 b) (size1 b) 2 w (e ∙ rw (p, q)) l
+            | inr q ↦ lowest o a b f w (e ∙ rw (p, q)) l
           ]
     ]
 
 -- ---- on a mesh whose words are packed
 
-module _ (n : ℕ) (ts ls : List ℕ) (T S : Tables) (size : length ts ≡ trianglesLength n) (sph : Sphere n (length ts / 3) (org ts) (opp ts))
-    (R : Realizer n (length ts / 3) (org ts) (opp ts) (label ls) (outer ts)) (across-is : (d : ℕ) → d < length ts → oppositeIn (T .op) d ≡ opp ts d)
-    (tag-is : (d : ℕ) → d < length ts → labelIn (T .op) d ≡ label ls d) (P : Preordered n ts T S) (t : ℕ) (h : 0 < t) (k : t < 2 * n - 4) where
+module _ (n : ℕ) (ts ls : List ℕ) (T : Peeling) (S : Tables) (most : n ≤ 4096) (size : length ts ≡ trianglesLength n)
+    (sph : Sphere n (length ts / 3) (org ts) (opp ts)) (R : Realizer n (length ts / 3) (org ts) (opp ts) (label ls) (outer ts)) (D : Describes ts ls T)
+    (P : Preordered n T S) (t : ℕ) (h : 0 < t) (k : t < 2 * n - 4) where
   whole : length ts ≡ 3 * (length ts / 3)
   whole = omega (arith, size)
 
@@ -122,14 +122,14 @@ module _ (n : ℕ) (ts ls : List ℕ) (T S : Tables) (size : length ts ≡ trian
   inside = omega (arith, size)
 
   abbrev g : ℕ
-  g = apexDart (T .op) t
+  g = apexDart T t
 
   corners-at : (corner ls t 2 ≡ g) × (corner ls t 0 ≡ next g) × (corner ls t 1 ≡ prev g)
-  corners-at = apex-is ts ls sph whole R (T .op) across-is tag-is t h inside
+  corners-at = apex-is ts ls sph whole R T D t h inside
 
   below : (g < 3 * (length ts / 3)) × (next g < 3 * (length ts / 3)) × (prev g < 3 * (length ts / 3))
   below =
-      let b = apex-below ts ls sph whole R (T .op) across-is tag-is t h inside .below in
+      let b = apex-below ts ls sph whole R T D t h inside .below in
       (b, next-below (length ts / 3) g b, prev-below (length ts / 3) g b)
 
   -- the triangles beyond it
@@ -137,59 +137,73 @@ module _ (n : ℕ) (ts ls : List ℕ) (T S : Tables) (size : length ts ≡ trian
   unfolding beyond
   beyond-are = rw (corners-at .0, corners-at .1, corners-at .2, next-next g, next-prev g) (refl, refl, refl)
 
-  across-at : (d : ℕ) → d < 3 * (length ts / 3) → oppositeIn (T .op) d ≡ opp ts d
-  across-at d b = across-is d (omega (arith, b, whole))
+  -- as the words tell them
+  across-are : (T .turn g ≡ opp ts (prev g)) × (T .turn (next g) ≡ opp ts g) × (walkDart T t ≡ opp ts (next g))
+  unfolding oppositeIn
+  across-are = (
+    ap (T .turn) (sym (next-prev g)) ∙ D .opposites (prev g) (omega (arith, below, whole)),
+    D .opposites g (omega (arith, below, whole)),
+    comes ts ls sph whole R T D t h inside,
+  )
+
+  across-few : (d : ℕ) → d < 3 * (length ts / 3) → tri (opp ts d) < 65536
+  across-few d b = omega (arith, tri-below (length ts / 3) (opp ts d) (sph .dart d b), size)
 
   inner : t ≢ 0
   inner z = absurd (omega (arith, h, z))
 
+  other-walks : S .op (3 * t + 2) ≡ pack (tri (opp ts (prev g))) (tri (opp ts g)) 0 0
+  unfolding otherWalksWord
+  other-walks = P .walksPacked .otherWalks t h k ∙ rw (across-are .0, across-are .1)
+
   -- the words lead there
   pub next-is : (c : ℕ) → c < 3 → nextOn S c t ≡ beyond ts ls c t
-  unfolding nextOn walkDart otherWalksWord
+  unfolding nextOn
   next-is zero b =
       rw (ne-eqb t 0 inner)
-      (lowest (tri (oppositeIn (T .op) (prev g))) (tri (oppositeIn (T .op) g)) 0 0 (S .op (3 * t + 2)) (P .walksPacked .otherWalks t h k)
-      (dart-low (T .op) (prev g))
-      ∙ ap tri (across-at (prev g) (below .2)) ∙ sym (beyond-are .0))
+      (lowest (tri (opp ts (prev g))) (tri (opp ts g)) 0 0 (S .op (3 * t + 2)) other-walks (across-few (prev g) (below .2)) ∙ sym (beyond-are .0))
   next-is (suc zero) b =
       rw (ne-eqb t 0 inner)
-      (field1-is (tri (oppositeIn (T .op) (prev g))) (tri (oppositeIn (T .op) g)) 0 0 (S .op (3 * t + 2)) (P .walksPacked .otherWalks t h k)
-      (dart-low (T .op) (prev g))
-      (dart-low (T .op) g)
+      (field1-is (tri (opp ts (prev g))) (tri (opp ts g)) 0 0 (S .op (3 * t + 2)) other-walks (across-few (prev g) (below .2)) (across-few g (below .0))
       (omega arith)
-      ∙ ap tri (across-at g (below .0)) ∙ sym (beyond-are .1))
+      ∙ sym (beyond-are .1))
   next-is (suc (suc zero)) b =
       rw (ne-eqb t 0 inner)
-      (move-to ts T (P .from0) (P .size0) (P .from1) (P .size1) t (S .op (3 * t)) (P .moves t h k) ∙ ap tri (across-at (next g) (below .1))
-      ∙ sym (beyond-are .2))
+      (move-to T (P .from0) (P .size0) (P .from1) (P .size1) t (S .op (3 * t)) (rw (across-are .2) (across-few (next g) (below .1))) (P .moves t h k)
+      ∙ ap tri (across-are .2) ∙ sym (beyond-are .2))
   next-is (suc (suc (suc c))) b = absurd (omega arith)
 
   -- the vertices at its corners
-  module _ (low : (d : ℕ) → org ts d < 65536) where
-    pub corners-are :
-        (field0 (S .op (3 * t + 1)) ≡ vertexAt ts ls t 0) × (field1 (S .op (3 * t + 1)) ≡ vertexAt ts ls t 1)
-        × (field2 (S .op (3 * t + 1)) ≡ vertexAt ts ls t 2)
-    unfolding cornerWord
-    corners-are =
-        let w = S .op (3 * t + 1) in
-        let e = P .corners t h k in
-        let p = org ts (next g) in
-        let q = org ts (prev g) in
-        let r = org ts g in (
-          field0-is p q r 0 w e (low (next g)) (low (prev g)) (low g) ∙ sym (ap (org ts) (corners-at .1)),
-          field1-is p q r 0 w e (low (next g)) (low (prev g)) (low g) ∙ sym (ap (org ts) (corners-at .2)),
-          field2-is p q r 0 w e (low (next g)) (low (prev g)) (low g) ∙ sym (ap (org ts) (corners-at .0)),
-        )
+  corner-word : S .op (3 * t + 1) ≡ pack (org ts (next g)) (org ts (prev g)) (org ts g) 0
+  unfolding cornerWord
+  corner-word = let e = origins-are ts ls sph whole R T D t h inside in P .corners t h k ∙ rw (e .0, e .1, e .2)
 
-    -- Coordinates bs of which only the first two are those of bs′ tell whether it is bad, and its raise.
-    module _ (bs bs′ : List ℤ) (same : (a : ℕ) → a < 3 → Agree bs bs′ (vertexAt ts ls t a)) where
-      pub bad-is : badAt S bs t ≡ bad ts ls bs′ t
-      unfolding badAt
-      bad-is = let c = corners-are in rw (c .0, c .1, c .2) (bad-of ts ls bs bs′ t same)
+  pub corners-are :
+      (field0 (S .op (3 * t + 1)) ≡ vertexAt ts ls t 0) × (field1 (S .op (3 * t + 1)) ≡ vertexAt ts ls t 1)
+      × (field2 (S .op (3 * t + 1)) ≡ vertexAt ts ls t 2)
+  corners-are =
+      let w = S .op (3 * t + 1) in
+      let e = corner-word in
+      let p = org ts (next g) in
+      let q = org ts (prev g) in
+      let r = org ts g in
+      let hp : p < 65536 = omega (arith, sph .vertex (next g) (below .1), most) in
+      let hq : q < 65536 = omega (arith, sph .vertex (prev g) (below .2), most) in
+      let hr : r < 65536 = omega (arith, sph .vertex g (below .0), most) in (
+        field0-is p q r 0 w e hp hq hr ∙ sym (ap (org ts) (corners-at .1)),
+        field1-is p q r 0 w e hp hq hr ∙ sym (ap (org ts) (corners-at .2)),
+        field2-is p q r 0 w e hp hq hr ∙ sym (ap (org ts) (corners-at .0)),
+      )
 
-      pub raise-is : (N : ℤ) →
-          ((a : ℕ) → a < 3 → coordinate bs′ 0 (vertexAt ts ls t a) +ℤ coordinate bs′ 1 (vertexAt ts ls t a) +ℤ coordinate bs′ 2
-          (vertexAt ts ls t a) ≡ N) →
-          raiseAt S bs t ≡ raise ts ls bs′ t
-      unfolding raiseAt
-      raise-is N total = let c = corners-are in rw (c .0, c .1, c .2) (raise-of ts ls bs bs′ N t same total)
+  -- Coordinates bs of which only the first two are those of bs′ tell whether it is bad, and its raise.
+  module _ (bs bs′ : List ℤ) (same : (a : ℕ) → a < 3 → Agree bs bs′ (vertexAt ts ls t a)) where
+    pub bad-is : badAt S bs t ≡ bad ts ls bs′ t
+    unfolding badAt
+    bad-is = let c = corners-are in rw (c .0, c .1, c .2) (bad-of ts ls bs bs′ t same)
+
+    pub raise-is : (N : ℤ) →
+        ((a : ℕ) → a < 3 → coordinate bs′ 0 (vertexAt ts ls t a) +ℤ coordinate bs′ 1 (vertexAt ts ls t a) +ℤ coordinate bs′ 2
+        (vertexAt ts ls t a) ≡ N) →
+        raiseAt S bs t ≡ raise ts ls bs′ t
+    unfolding raiseAt
+    raise-is N total = let c = corners-are in rw (c .0, c .1, c .2) (raise-of ts ls bs bs′ N t same total)

@@ -1,5 +1,6 @@
 -- How the preorders are made in scratch.
 pub mod Model
+pub mod KeptWords
 pub mod LoopInvariants
 pub mod PreorderBuilt
 pub mod RootedForest

@@ -4,16 +4,18 @@ use mathlib.Core.Path.{_≡_, refl, sym, ap, _∙_}
 use mathlib.Core.Logic.{_≢_, inl, inr}
 use mathlib.Core.List.{List}
 use native.Mathlib.Omega.{arith}
+use native.Mathlib.Decide.{ℕ-discrete}
 use lib.Dec.{eqb}
 use lib.ListN.{length}
 use lib.IntN.{ℤ}
 use borrow.Author.Tests.{eq-eqb, ne-eqb, lt-ltb, le-ltb}
-use Rattle.definitions.specs.Mesh.{org}
 use Rattle.laws.specs.Lists.{tested}
 use Rattle.scratch_tables.specs.Tables.{Tables, tablesOf, vertexIn, setOp, setHead, setCount, setMark, upd-other}
-use Rattle.repair_model.specs.PackedWords.{pack, field0, field1, field2, field3}
+use Rattle.scratch_tables.specs.Fields.{pack, field0, field1, field2, field3, field3-is, field0-small}
+use Rattle.labels_tables.specs.Peeling.{peeling}
 use Rattle.repair_preorder.specs.Model.{upward, downward, parent, initSize, addSize, initRoot, allocateRange, withRange, storeRange, clampIndex}
 use Rattle.repair_preorder.specs.Model.{storeEntry, storeVertex, sizesComputed, positionsComputed, preorderBuilt}
+use Rattle.repair_preorder.specs.KeptWords.{ranges-out, sized-op, placed-op, placed, built-word}
 
 -- ---- the words of the vertices that left stay
 
@@ -111,6 +113,13 @@ pass-pre-odd o e P =
       right = λ k h. rw (o .odd k) (P .right k h);
     }
 
+-- and the words of walks across sides of the colour name vertices
+pub record WalksIn (n colour : ℕ) (S : Tables) : Type 0 where
+  pub tails : (t : ℕ) → 0 < t → t < 2 * n - 4 → field3 (S .op (3 * t)) ≡ colour + 1 → parent colour (S .op (3 * t)) < n
+
+walks-kept : (n colour : ℕ) (S S′ : Tables) → S′ .op ≡ S .op → WalksIn n colour S → WalksIn n colour S′
+walks-kept n colour S S′ e W = record { tails = λ t h l. rw e (W .tails t h l) }
+
 -- ---- the loops
 
 -- k steps are done
@@ -169,9 +178,18 @@ pub parent-1 : (w colour u : ℕ) → colour ≢ 0 → u ≡ field2 w → u ≡ 
 unfolding parent
 parent-1 w colour u e eu = rw (ne-eqb colour 0 e) eu
 
--- a field f of the word w has room for its words
-pub field-room : (f : ℕ → ℕ) (w m v words : ℕ) → v ≡ f w → w ≡ m → 10 * f m + 10 ≤ words → vertexIn words v
-field-room f w m v words e q h = omega (arith, e, ap f q)
+-- a field f of the word w is a vertex that there is
+pub field-room : (f : ℕ → ℕ) (w m v words : ℕ) → v ≡ f w → w ≡ m → vertexIn words (f m) → vertexIn words v
+field-room f w m v words e q h = rw (e, q) h
+
+-- so is the tail that the word of a walk names, where the walk goes across a side of the colour
+pub tail-room : (colour w f v words : ℕ) → f ≡ field3 w → f ≡ colour + 1 → v ≡ parent colour w → (field3 w ≡ colour + 1 → vertexIn words (parent colour w)) →
+    vertexIn words v
+tail-room colour w f v words ef e ev h = rw ev (h (sym ef ∙ e))
+
+pub word-room : (colour w m words : ℕ) → w ≡ m → (field3 m ≡ colour + 1 → vertexIn words (parent colour m)) →
+    field3 w ≡ colour + 1 → vertexIn words (parent colour w)
+word-room colour w m words e h = rw e h
 
 pub addSize-is : (colour k w u a v b : ℕ) (T T′ : Tables) → w ≡ T .mark (2 * k + 1) → u ≡ parent colour w → a ≡ T .mark (2 * u) → v ≡ field0 w
     → b ≡ T .mark (2 * v) →
@@ -275,8 +293,51 @@ pub preorderBuilt-is : (n colour root : ℕ) (T T₁ T₂ T₃ T₄ : Tables) �
 unfolding preorderBuilt
 preorderBuilt-is n colour root T T₁ T₂ T₃ T₄ e₁ e₂ e₃ e₄ = rw (e₄, e₃, e₂, e₁)
 
+-- the words of walks after the first two passes, and those across sides of colour 1 after all passes of colour 0
+module _ (n colour : ℕ) (T T′ : Tables) where
+  pub sized-walks : T′ ≡ sizesComputed n colour T → WalksIn n colour T → WalksIn n colour T′
+  sized-walks e W = rw e (walks-kept n colour T (sizesComputed n colour T) (sized-op n colour 0 T) W)
+
+  pub placed-walks : (root : ℕ) → T′ ≡ positionsComputed n colour root T → WalksIn n colour T → WalksIn n colour T′
+  placed-walks root e W = rw e (walks-kept n colour T (positionsComputed n colour root T) (placed-op n colour root T) W)
+
+-- a word across a side of colour 1 is none of colour 0, and stays
+module _ (n root : ℕ) (T : Tables) where
+  other-word : (w : ℕ) (S : Tables) → field3 (withRange 0 w S) ≡ 2 → withRange 0 w S ≡ w
+  unfolding withRange
+  other-word w S e =
+      elim (ℕ-discrete (field3 w) 1) [
+        | no d ↦ rw (ne-eqb (field3 w) 1 d)
+        | yes d ↦
+            let a = field0 (S .head (parent 0 w) - 1) in
+            let b = field0 (S .mark (2 * parent 0 w)) in
+            let x = pack (field0 w) a b (field3 w) in
+            let f : field3 x ≡ field3 w = field3-is (field0 w) a b (field3 w) x refl (field0-small _) (field0-small _) (field0-small _) in
+            absurd (omega (arith, d, f, rw (eq-eqb (field3 w) 1 d) at e))
+      ]
+
+  pub built-walks : (T′ : Tables) → T′ ≡ preorderBuilt n 0 root T → WalksIn n 1 T → WalksIn n 1 T′
+  built-walks T′ e W =
+      rw e
+      (record {
+        tails = λ t h l f.
+            let b = built-word n 0 root T t h l in
+            let s = other-word (T .op (3 * t)) (placed n 0 root T) (sym (ap field3 b) ∙ f) in
+            rw (b ∙ s) (W .tails t h l (sym (ap field3 (b ∙ s)) ∙ f));
+      })
+
+-- the words of triangle t before they are stored
+pub range-pre : (n colour : ℕ) (s₀ s : List ℤ) (t : ℕ) → Up (storeRange colour) s₀ s t → WalksIn n colour (tablesOf s₀) →
+    10 * n ≤ length s₀ → 0 < t → t < 2 * n - 4 → field3 (tablesOf s .op (3 * t)) ≡ colour + 1 →
+    vertexIn (length s) (parent colour (tablesOf s .op (3 * t)))
+range-pre n colour s₀ s t U W room h l =
+    let e : tablesOf s .op (3 * t) ≡ tablesOf s₀ .op (3 * t) = ap (λ (T : Tables). T .op (3 * t)) (U .is) ∙ ranges-out colour t t (tablesOf s₀) (omega arith) in
+    rw e (λ f. omega (arith, W .tails t h l f, room, U .long))
+
 -- scratch as it is before both colours
-pub record PreorderPre (n : ℕ) (ts : List ℕ) (s : List ℤ) : Type 0 where
+pub record PreorderPre (n : ℕ) (s : List ℤ) : Type 0 where
   pub pass-pre : PassPre n (length s) (tablesOf s)
-  pub first : org ts 0 < n
-  pub last : org ts 2 < n
+  pub walks0 : WalksIn n 0 (tablesOf s)
+  pub walks1 : WalksIn n 1 (tablesOf s)
+  pub first : peeling s .origin 0 < n
+  pub last : peeling s .origin 2 < n

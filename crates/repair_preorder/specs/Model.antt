@@ -3,7 +3,7 @@ use Prim.Native.Nat.{ℕ, zero, suc, _+_, _-_, _*_, _%_}
 use mathlib.Core.Bool.{cond}
 use lib.Dec.{eqb, ltb}
 use Rattle.scratch_tables.specs.Tables.{Tables, setOp, setHead, setCount, setMark}
-use Rattle.repair_model.specs.PackedWords.{pack, field0, field1, field2, field3}
+use Rattle.scratch_tables.specs.Fields.{pack, field0, field1, field2, field3}
 
 -- steps 0 to k - 1, one after another, and in reverse
 unfoldable pub upward : (ℕ → Tables → Tables) → ℕ → Tables → Tables

@@ -6,26 +6,15 @@ use native.Mathlib.Omega.{arith}
 use native.Mathlib.Decide.{ℕ-discrete}
 use Rattle.theory_subtrees.specs.Preorder.{sizes, allocate, allocateAll, preorder}
 use Rattle.theory_subtrees.specs.Ranges.{places}
-use Rattle.scratch_tables.specs.Tables.{Tables, setOp, setHead, setCount, setMark, upd, upd-at, upd-other}
-use borrow.Author.Tests.{eq-eqb, ne-eqb}
-use Rattle.repair_model.specs.PackedWords.{pack, field0, field3}
+use Rattle.scratch_tables.specs.Tables.{Tables, setHead, setCount, setMark, upd, upd-at, upd-other}
+use borrow.Author.Tests.{eq-eqb}
+use Rattle.scratch_tables.specs.Fields.{pack, field0, field3}
 use Rattle.repair_preorder.specs.Model.{upward, downward, parent, initSize, addSize, initRoot, allocateRange, withRange, storeRange, storeEntry}
 use Rattle.repair_preorder.specs.Model.{storeVertex, sizesComputed, positionsComputed, preorderBuilt}
 use Rattle.repair_preorder.specs.LoopInvariants.{Odd, odd-then, odd-upward, odd-one, odd-add, odd-root, odd-allocate, odd-range, odd-store, odd-sizes}
 use Rattle.repair_preorder.specs.LoopInvariants.{odd-positions, withRange-not, clampIndex-in}
-
--- ---- what every step keeps
-
-module _ {X : Type 0} (g : Tables → X) (f : ℕ → Tables → Tables) (same : (k : ℕ) (S : Tables) → g (f k S) ≡ g S) where
-  up-keeps : (k : ℕ) (S : Tables) → g (upward f k S) ≡ g S
-  unfolding upward
-  up-keeps zero S = refl
-  up-keeps (suc k) S = same k (upward f k S) ∙ up-keeps k S
-
-  down-keeps : (k : ℕ) (S : Tables) → g (downward f k S) ≡ g S
-  unfolding downward
-  down-keeps zero S = refl
-  down-keeps (suc k) S = down-keeps k (f k S) ∙ same k S
+use Rattle.repair_preorder.specs.KeptWords.{up-keeps, range-head, range-count, storeVertex-head, storeVertex-count, sized-keeps, placed-keeps}
+use Rattle.repair_preorder.specs.KeptWords.{built-word}
 
 -- Of the vertices that left, the words name the k-th and its parent.
 pub record Names (m colour : ℕ) (who up : ℕ → ℕ) (S : Tables) : Type 0 where
@@ -94,57 +83,6 @@ module _ (m colour : ℕ) (who up : ℕ → ℕ) where
       places-are k (allocateRange colour k S) z (allocate who up z k c) (omega arith) (names-odd (odd-allocate colour k S) N)
       (λ j h. ap (λ (f : ℕ → ℕ). f (2 * who j)) (allocateRange-mark k S) ∙ e j h) (place-step k S z c (omega arith) N (e k (omega arith)) q)
 
-  -- ---- the words
-
-  withRange-same : (w : ℕ) (S S′ : Tables) → S′ .head ≡ S .head → S′ .mark ≡ S .mark → withRange colour w S′ ≡ withRange colour w S
-  unfolding withRange
-  withRange-same w S S′ h e = rw (h, e)
-
-  range-head : (t : ℕ) (S : Tables) → storeRange colour t S .head ≡ S .head
-  unfolding storeRange setOp
-  range-head zero S = refl
-  range-head (suc t) S = refl
-
-  range-count : (t : ℕ) (S : Tables) → storeRange colour t S .count ≡ S .count
-  unfolding storeRange setOp
-  range-count zero S = refl
-  range-count (suc t) S = refl
-
-  range-mark : (t : ℕ) (S : Tables) → storeRange colour t S .mark ≡ S .mark
-  unfolding storeRange setOp
-  range-mark zero S = refl
-  range-mark (suc t) S = refl
-
-  range-rest : (d : ℕ) → d % 3 ≢ 0 → (t : ℕ) (S : Tables) → storeRange colour t S .op d ≡ S .op d
-  unfolding storeRange setOp
-  range-rest d h zero S = refl
-  range-rest d h (suc t) S = upd-other (3 * suc t) d (withRange colour (S .op (3 * suc t)) S) (S .op) (omega arith)
-
-  ranges-out : (k t : ℕ) (S : Tables) → k ≤ t → upward (storeRange colour) k S .op (3 * t) ≡ S .op (3 * t)
-  unfolding upward storeRange setOp
-  ranges-out zero t S h = refl
-  ranges-out (suc zero) t S h = refl
-  ranges-out (suc (suc k)) t S h =
-      let S′ = upward (storeRange colour) (suc k) S in
-      upd-other (3 * suc k) (3 * t) (withRange colour (S′ .op (3 * suc k)) S′) (S′ .op) (omega arith) ∙ ranges-out (suc k) t S (omega arith)
-
-  ranges-are : (k t : ℕ) (S : Tables) → 0 < t → t < k → upward (storeRange colour) k S .op (3 * t) ≡ withRange colour (S .op (3 * t)) S
-  unfolding upward storeRange setOp
-  ranges-are zero t S p h = absurd (omega arith)
-  ranges-are (suc zero) t S p h = absurd (omega arith)
-  ranges-are (suc (suc k)) t S p h =
-      let S′ = upward (storeRange colour) (suc k) S in
-      elim (ℕ-discrete t (suc k)) [
-        | yes e ↦
-            rw e
-            (upd-at (3 * suc k) (3 * suc k) (withRange colour (S′ .op (3 * suc k)) S′) (S′ .op) refl
-            ∙ ap (λ (w : ℕ). withRange colour w S′) (ranges-out (suc k) (suc k) S (omega arith))
-            ∙ withRange-same (S .op (3 * suc k)) S S′ (up-keeps (λ (T : Tables). T .head) (storeRange colour) range-head (suc k) S)
-            (up-keeps (λ (T : Tables). T .mark) (storeRange colour) range-mark (suc k) S))
-        | no e ↦
-            upd-other (3 * suc k) (3 * t) (withRange colour (S′ .op (3 * suc k)) S′) (S′ .op) (omega arith) ∙ ranges-are (suc k) t S p (omega arith)
-      ]
-
 -- ---- preorders
 
 even-set : (i x : ℕ) (f : ℕ → ℕ) (j : ℕ) → upd (2 * i) x f (2 * j) ≡ upd i x (λ k. f (2 * k)) j
@@ -153,20 +91,6 @@ even-set i x f j =
       | yes e ↦ upd-at (2 * i) (2 * j) x f (omega arith) ∙ sym (upd-at i j x (λ k. f (2 * k)) e)
       | no e ↦ upd-other (2 * i) (2 * j) x f (omega arith) ∙ sym (upd-other i j x (λ k. f (2 * k)) e)
     ]
-
-module _ (n : ℕ) where
-  module _ (colour : ℕ) where
-    storeVertex-head : (k : ℕ) (S : Tables) → storeVertex n colour k S .head ≡ S .head
-    unfolding storeVertex storeEntry setCount setMark
-    storeVertex-head k S = elim (ℕ-discrete colour 0) [ yes e ↦ rw (eq-eqb colour 0 e) | no e ↦ rw (ne-eqb colour 0 e) ]
-
-    storeVertex-op : (k : ℕ) (S : Tables) → storeVertex n colour k S .op ≡ S .op
-    unfolding storeVertex storeEntry setCount setMark
-    storeVertex-op k S = elim (ℕ-discrete colour 0) [ yes e ↦ rw (eq-eqb colour 0 e) | no e ↦ rw (ne-eqb colour 0 e) ]
-
-  storeVertex-count : (k : ℕ) (S : Tables) → storeVertex n 1 k S .count ≡ S .count
-  unfolding storeVertex storeEntry setMark
-  storeVertex-count k S = refl
 
 module _ (n m : ℕ) (who up c : ℕ → ℕ) (fits : (k : ℕ) → k < m → c (who k) - 1 < n) where
   module _ (colour : ℕ) where
@@ -222,16 +146,6 @@ module _ {n colour root : ℕ} {who up : ℕ → ℕ} {S : Tables} (G : Grows n 
   abbrev S₃ : Tables
   S₃ = upward (storeRange colour) (2 * n - 4) S₂
 
-  sized-keeps : {X : Type 0} (g : Tables → X) → ((i x : ℕ) (T : Tables) → g (setMark i x T) ≡ g T) → g S₁ ≡ g S
-  unfolding sizesComputed initSize addSize
-  sized-keeps g same =
-      up-keeps g (addSize colour) (λ k T. same _ _ T) (n - 2) (upward initSize n S) ∙ up-keeps g initSize (λ k T. same _ _ T) n S
-
-  placed-keeps : {X : Type 0} (g : Tables → X) → ((i x : ℕ) (T : Tables) → g (setHead i x T) ≡ g T) → g S₂ ≡ g S₁
-  unfolding positionsComputed initRoot allocateRange
-  placed-keeps g same =
-      down-keeps g (allocateRange colour) (λ k T. same _ _ _ ∙ same _ _ T) (n - 2) (initRoot root S₁) ∙ same root (S₁ .mark (2 * root)) S₁
-
   sized-mark : (v : ℕ) → v < n → S₁ .mark (2 * v) ≡ sizes who up (n - 2) v
   unfolding sizesComputed
   sized-mark v h =
@@ -240,47 +154,28 @@ module _ {n colour root : ℕ} {who up : ℕ → ℕ} {S : Tables} (G : Grows n 
 
   placed-mark : (v : ℕ) → v < n → S₂ .mark (2 * v) ≡ sizes who up (n - 2) v
   unfolding setHead
-  placed-mark v h = placed-keeps (λ (T : Tables). T .mark (2 * v)) (λ i x T. refl) ∙ sized-mark v h
+  placed-mark v h = placed-keeps n colour S₁ (λ (T : Tables). T .mark (2 * v)) root (λ i x T. refl) ∙ sized-mark v h
 
   placed-head : S₂ .head ≡ places (n - 2) root who up (S .head)
   unfolding positionsComputed initRoot setHead setMark
   placed-head =
       let z = sizes who up (n - 2) in
       let e : upd root (S₁ .mark (2 * root)) (S₁ .head) ≡ upd root (z root) (S .head) =
-      rw (sized-mark root (G .root-low), sized-keeps (λ (T : Tables). T .head) (λ i x T. refl)) in
+      rw (sized-mark root (G .root-low), sized-keeps n colour S (λ (T : Tables). T .head) (λ i x T. refl)) in
       places-are (n - 2) colour who up (n - 2) (initRoot root S₁) z (upd root (z root) (S .head)) (omega arith)
       (names-odd (odd-then (odd-sizes n colour S) (odd-root root S₁)) (G .names)) (λ j h. sized-mark (who j) (G .who-low j h)) e
-
-  built-op : preorderBuilt n colour root S .op ≡ S₃ .op
-  unfolding preorderBuilt
-  built-op = up-keeps (λ (T : Tables). T .op) (storeVertex n colour) (storeVertex-op n colour) (n - 2) S₃
-
-  same-op : S₂ .op ≡ S .op
-  unfolding setHead setMark
-  same-op = placed-keeps (λ (T : Tables). T .op) (λ i x T. refl) ∙ sized-keeps (λ (T : Tables). T .op) (λ i x T. refl)
-
-  built-word : (t : ℕ) → 0 < t → t < 2 * n - 4 → preorderBuilt n colour root S .op (3 * t) ≡ withRange colour (S .op (3 * t)) S₂
-  built-word t p l =
-      ap (λ (f : ℕ → ℕ). f (3 * t)) built-op ∙ ranges-are (n - 2) colour who up (2 * n - 4) t S₂ p l
-      ∙ ap (λ (f : ℕ → ℕ). withRange colour (f (3 * t)) S₂) same-op
-
-  pub built-rest : (d : ℕ) → d % 3 ≢ 0 → preorderBuilt n colour root S .op d ≡ S .op d
-  built-rest d h =
-      ap (λ (f : ℕ → ℕ). f d) built-op
-      ∙ up-keeps (λ (T : Tables). T .op d) (storeRange colour) (range-rest (n - 2) colour who up d h) (2 * n - 4) S₂
-      ∙ ap (λ (f : ℕ → ℕ). f d) same-op
 
   -- a word that leads across a side of another colour stays
   pub built-kept : (t w : ℕ) → 0 < t → t < 2 * n - 4 → S .op (3 * t) ≡ w → field3 w ≢ colour + 1 → preorderBuilt n colour root S .op (3 * t)
       ≡ w
-  built-kept t w p l e h = built-word t p l ∙ ap (λ (x : ℕ). withRange colour x S₂) e ∙ sym (withRange-not colour w S₂ (field3 w) refl h)
+  built-kept t w p l e h = built-word n colour root S t p l ∙ ap (λ (x : ℕ). withRange colour x S₂) e ∙ sym (withRange-not colour w S₂ (field3 w) refl h)
 
   -- a word of this colour gets the place and the size of the subtree
   pub built-moved : (t w v : ℕ) → 0 < t → t < 2 * n - 4 → S .op (3 * t) ≡ w → field3 w ≡ colour + 1 → parent colour w ≡ v → v < n →
       preorderBuilt n colour root S .op (3 * t) ≡ pack (field0 w) (field0 (places (n - 2) root who up (S .head) v - 1)) (field0 (sizes who up (n - 2) v))
       (colour + 1)
   unfolding withRange
-  built-moved t w v p l e f ev h = built-word t p l ∙ rw (e, eq-eqb (field3 w) (colour + 1) f, f, ev, placed-head, placed-mark v h)
+  built-moved t w v p l e f ev h = built-word n colour root S t p l ∙ rw (e, eq-eqb (field3 w) (colour + 1) f, f, ev, placed-head, placed-mark v h)
 
   -- before the last pass
   ranges-names : Names (n - 2) colour who up S₃
@@ -290,13 +185,13 @@ module _ {n colour root : ℕ} {who up : ℕ → ℕ} {S : Tables} (G : Grows n 
       (G .names)
 
   ranges-head : S₃ .head ≡ places (n - 2) root who up (S .head)
-  ranges-head = up-keeps (λ (T : Tables). T .head) (storeRange colour) (range-head (n - 2) colour who up) (2 * n - 4) S₂ ∙ placed-head
+  ranges-head = up-keeps (λ (T : Tables). T .head) (storeRange colour) (range-head colour) (2 * n - 4) S₂ ∙ placed-head
 
   ranges-count : S₃ .count ≡ S .count
   unfolding setHead setMark
   ranges-count =
-      up-keeps (λ (T : Tables). T .count) (storeRange colour) (range-count (n - 2) colour who up) (2 * n - 4) S₂
-      ∙ placed-keeps (λ (T : Tables). T .count) (λ i x T. refl) ∙ sized-keeps (λ (T : Tables). T .count) (λ i x T. refl)
+      up-keeps (λ (T : Tables). T .count) (storeRange colour) (range-count colour) (2 * n - 4) S₂
+      ∙ placed-keeps n colour S₁ (λ (T : Tables). T .count) root (λ i x T. refl) ∙ sized-keeps n colour S (λ (T : Tables). T .count) (λ i x T. refl)
 
 module _ {n root : ℕ} {who up : ℕ → ℕ} {S : Tables} where
   pub built-order0 : (G : Grows n 0 root who up S) → preorderBuilt n 0 root S .count

@@ -3,29 +3,29 @@
 // into the words of the walks; the vertices at their positions. Remainders, `saturating_sub` and `clamp_index` keep stores in their tables whatever the words
 // say; where paths lead to the roots they change nothing.
 use int64::saturating_sub;
-use repair_words::field0;
-use repair_words::field1;
-use repair_words::field2;
-use repair_words::field3;
-use repair_words::pack;
+use labels_tables::origin;
 use repair_words::removed_at;
 use repair_words::walk_at;
-use scratch_tables::get_head;
-use scratch_tables::get_mark;
-use scratch_tables::origin;
+use scratch_tables::field0;
+use scratch_tables::field1;
+use scratch_tables::field2;
+use scratch_tables::field3;
+use scratch_tables::pack;
 use scratch_tables::set_count;
+use scratch_tables::set_extra;
 use scratch_tables::set_head;
-use scratch_tables::set_mark;
 use scratch_tables::set_op;
 ghost use mathlib.Core.Path.{_≡_};
 ghost use Prim.Native.Nat.{_+_, _-_, _*_, _<_, _≤_, _^_};
 ghost use lib.ListN.{length};
-ghost use Rattle.scratch_tables.specs.Tables.{Tables, tablesOf, vertexIn, setHead, setMark};
-ghost use Rattle.repair_model.specs.PackedWords.{field0, Packed, WalksPacked};
+ghost use Rattle.scratch_tables.specs.Tables.{tablesOf, dartIn, vertexIn, setHead, setMark};
+ghost use Rattle.scratch_tables.specs.Fields.{field0, field3};
+ghost use Rattle.labels_tables.specs.Peeling.{Peeling};
+ghost use Rattle.repair_model.specs.PackedWords.{Packed, WalksPacked};
 ghost use Rattle.repair_model.specs.PreorderWords.{Preordered};
 ghost use Rattle.repair_preorder.specs.Model.{upward, downward, parent, initSize, addSize, allocateRange, withRange, storeRange, clampIndex};
 ghost use Rattle.repair_preorder.specs.Model.{storeEntry, storeVertex, sizesComputed, positionsComputed, preorderBuilt};
-ghost use Rattle.repair_preorder.specs.LoopInvariants.{PassPre, PreorderPre};
+ghost use Rattle.repair_preorder.specs.LoopInvariants.{PassPre, WalksIn, PreorderPre};
 ghost use Rattle.repair_preorder.specs.RootedForest.{RootedForest};
 
 // in the word of a vertex that left, its parent; in the word of a triangle, the tail of its side
@@ -41,25 +41,26 @@ fn parent(w: usize, colour: usize) -> usize
 
 // While a preorder is built: the size of the subtree of vertex v, and where its range ends.
 fn subtree_size(scratch: &[i64], v: usize) -> usize
-    requires { ⌜ v < 65536 ⌝ }
+    requires { ⌜ vertexIn (length (now scratch)) v ⌝ }
     ensures is { λ r. ⌜ r ≡ tablesOf (now (scratch .entry)) .mark (2 * v) ⌝ }
     ensures small { λ r. ⌜ r < 2 ^ 63 ⌝ }
 {
-    get_mark(scratch, 2 * v)
+    scratch_tables::extra_word(scratch, v)
 }
 
 fn set_subtree_size(scratch: &mut [i64], v: usize, size: usize)
-    requires { ⌜ vertexIn (length (now scratch)) v × (v < 65536) × (size < 2 ^ 63) ⌝ }
+    requires { ⌜ vertexIn (length (now scratch)) v × (size < 2 ^ 63) ⌝ }
     ensures { λ r. ⌜ tablesOf (now (scratch .exit)) ≡ setMark (2 * v) size (tablesOf (now (scratch .entry))) ⌝ }
 {
-    set_mark(scratch, 2 * v, size);
+    set_extra(scratch, v, size);
 }
 
 fn range_end(scratch: &[i64], v: usize) -> usize
+    requires { ⌜ vertexIn (length (now scratch)) v ⌝ }
     ensures is { λ r. ⌜ r ≡ tablesOf (now (scratch .entry)) .head v ⌝ }
     ensures small { λ r. ⌜ r < 2 ^ 63 ⌝ }
 {
-    get_head(scratch, v)
+    scratch_tables::vertex_word(scratch, v)
 }
 
 fn set_range_end(scratch: &mut [i64], v: usize, end: usize)
@@ -83,7 +84,8 @@ fn init_sizes(n: usize, scratch: &mut [i64])
 
 // the k-th vertex that left, for its parent too
 fn add_size(scratch: &mut [i64], colour: usize, k: usize)
-    requires { ⌜ (k < 65536) × (10 * parent colour (tablesOf (now scratch) .mark (2 * k + 1)) + 10 ≤ length (now scratch)) ⌝ }
+    requires { ⌜ vertexIn (length (now scratch)) k × vertexIn (length (now scratch)) (field0 (tablesOf (now scratch) .mark (2 * k + 1)))
+        × vertexIn (length (now scratch)) (parent colour (tablesOf (now scratch) .mark (2 * k + 1))) ⌝ }
     ensures { λ r. ⌜ tablesOf (now (scratch .exit)) ≡ addSize colour k (tablesOf (now (scratch .entry))) ⌝ }
 {
     let w = removed_at(scratch, k);
@@ -106,8 +108,8 @@ fn accumulate_sizes(n: usize, scratch: &mut [i64], colour: usize)
 
 // the k-th vertex that left takes its place from the end of what its parent has left
 fn allocate_range(scratch: &mut [i64], colour: usize, k: usize)
-    requires { ⌜ (k < 65536) × (10 * field0 (tablesOf (now scratch) .mark (2 * k + 1)) + 10 ≤ length (now scratch))
-        × (10 * parent colour (tablesOf (now scratch) .mark (2 * k + 1)) + 10 ≤ length (now scratch)) ⌝ }
+    requires { ⌜ vertexIn (length (now scratch)) k × vertexIn (length (now scratch)) (field0 (tablesOf (now scratch) .mark (2 * k + 1)))
+        × vertexIn (length (now scratch)) (parent colour (tablesOf (now scratch) .mark (2 * k + 1))) ⌝ }
     ensures { λ r. ⌜ tablesOf (now (scratch .exit)) ≡ allocateRange colour k (tablesOf (now (scratch .entry))) ⌝ }
 {
     let w = removed_at(scratch, k);
@@ -132,7 +134,7 @@ fn allocate_ranges(n: usize, scratch: &mut [i64], colour: usize)
 
 // the word w with the place and the size of a subtree, if it leads across a side of the colour
 fn with_range(scratch: &[i64], colour: usize, w: usize) -> usize
-    requires { ⌜ (w < 2 ^ 63) × (colour < 2) ⌝ }
+    requires { ⌜ (w < 2 ^ 63) × (colour < 2) × (field3 w ≡ colour + 1 → vertexIn (length (now scratch)) (parent colour w)) ⌝ }
     ensures is { λ r. ⌜ r ≡ withRange colour w (tablesOf (now (scratch .entry))) ⌝ }
     ensures small { λ r. ⌜ r < 2 ^ 63 ⌝ }
 {
@@ -147,7 +149,8 @@ fn with_range(scratch: &[i64], colour: usize, w: usize) -> usize
 }
 
 fn store_range(scratch: &mut [i64], colour: usize, t: usize)
-    requires { ⌜ (0 < t) × (t < 65536) × (5 * t + 10 ≤ length (now scratch)) × (colour < 2) ⌝ }
+    requires { ⌜ (0 < t) × dartIn (length (now scratch)) (3 * t) × (colour < 2) × (field3 (tablesOf (now scratch) .op (3 * t)) ≡ colour + 1 →
+        vertexIn (length (now scratch)) (parent colour (tablesOf (now scratch) .op (3 * t)))) ⌝ }
     ensures { λ r. ⌜ tablesOf (now (scratch .exit)) ≡ storeRange colour t (tablesOf (now (scratch .entry))) ⌝ }
 {
     let w = walk_at(scratch, t);
@@ -156,7 +159,7 @@ fn store_range(scratch: &mut [i64], colour: usize, t: usize)
 }
 
 fn store_ranges(n: usize, scratch: &mut [i64], colour: usize)
-    requires { ⌜ PassPre n (length (now scratch)) (tablesOf (now scratch)) × (colour < 2) ⌝ }
+    requires { ⌜ PassPre n (length (now scratch)) (tablesOf (now scratch)) × WalksIn n colour (tablesOf (now scratch)) × (colour < 2) ⌝ }
     ensures { λ r. ⌜ tablesOf (now (scratch .exit)) ≡ upward (storeRange colour) (2 * n - 4) (tablesOf (now (scratch .entry))) ⌝ }
 {
     let mut t = 1;
@@ -179,19 +182,20 @@ fn clamp_index(n: usize, i: usize) -> usize
 }
 
 fn store_entry(scratch: &mut [i64], colour: usize, i: usize, x: usize)
-    requires { ⌜ (10 * i + 10 ≤ length (now scratch)) × (i < 65536) × (x < 65536) ⌝ }
+    requires { ⌜ vertexIn (length (now scratch)) i × (x < 65536) ⌝ }
     ensures { λ r. ⌜ tablesOf (now (scratch .exit)) ≡ storeEntry colour i x (tablesOf (now (scratch .entry))) ⌝ }
 {
     if colour == 0 {
         set_count(scratch, i, x);
         return;
     }
-    set_mark(scratch, 2 * i, x);
+    set_extra(scratch, i, x);
 }
 
 // the k-th vertex that left, at its place
 fn store_vertex(n: usize, scratch: &mut [i64], colour: usize, k: usize)
-    requires { ⌜ (k < 65536) × (0 < n) × (n < 65536) × (10 * n ≤ length (now scratch)) ⌝ }
+    requires { ⌜ vertexIn (length (now scratch)) k × vertexIn (length (now scratch)) (field0 (tablesOf (now scratch) .mark (2 * k + 1)))
+        × (0 < n) × (10 * n ≤ length (now scratch)) ⌝ }
     ensures { λ r. ⌜ tablesOf (now (scratch .exit)) ≡ storeVertex n colour k (tablesOf (now (scratch .entry))) ⌝ }
 {
     let v = field0(removed_at(scratch, k));
@@ -231,7 +235,7 @@ fn compute_positions(n: usize, scratch: &mut [i64], colour: usize, root: usize)
 
 // the preorder of a colour
 fn build_preorder(n: usize, scratch: &mut [i64], colour: usize, root: usize)
-    requires { ⌜ PassPre n (length (now scratch)) (tablesOf (now scratch)) × (colour < 2) × (root < n) ⌝ }
+    requires { ⌜ PassPre n (length (now scratch)) (tablesOf (now scratch)) × WalksIn n colour (tablesOf (now scratch)) × (colour < 2) × (root < n) ⌝ }
     ensures { λ r. ⌜ tablesOf (now (scratch .exit)) ≡ preorderBuilt n colour root (tablesOf (now (scratch .entry))) ⌝ }
 {
     compute_sizes(n, scratch, colour);
@@ -241,14 +245,13 @@ fn build_preorder(n: usize, scratch: &mut [i64], colour: usize, root: usize)
 }
 
 // The preorders of both colours. Where the words were packed from the tables T, and the paths in T lead to v0 and v1, their subtrees are ranges of these.
-pub fn build_preorders(n: usize, triangles: &[u16], scratch: &mut [i64])
-    requires { ⌜ PreorderPre n (now triangles) (now scratch) ⌝ }
-    ensures { λ r. ⌜ ((T : Tables) → Packed n (now (triangles .entry)) T (tablesOf (now (scratch .entry))) →
-        WalksPacked n T (tablesOf (now (scratch .entry))) → RootedForest n (now (triangles .entry)) T →
-        Preordered n (now (triangles .entry)) T (tablesOf (now (scratch .exit)))) ⌝ }
+pub fn build_preorders(n: usize, scratch: &mut [i64])
+    requires { ⌜ PreorderPre n (now scratch) ⌝ }
+    ensures { λ r. ⌜ ((T : Peeling) → Packed n T (tablesOf (now (scratch .entry))) → WalksPacked n T (tablesOf (now (scratch .entry))) →
+        RootedForest n T → Preordered n T (tablesOf (now (scratch .exit)))) ⌝ }
 {
-    let v0 = origin(triangles, 0);
+    let v0 = origin(scratch, 0);
+    let v1 = origin(scratch, 2);
     build_preorder(n, scratch, 0, v0);
-    let v1 = origin(triangles, 2);
     build_preorder(n, scratch, 1, v1);
 }

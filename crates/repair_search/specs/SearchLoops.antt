@@ -6,15 +6,48 @@ use mathlib.Core.Bool.{Bool, true, false}
 use mathlib.Core.List.{List, [], List·Memᴰ·not-nil, List·Memᴰ·cases-cons}
 use native.Mathlib.Omega.{arith}
 use native.Mathlib.Decide.{ℕ-discrete}
+use lib.ListN.{length}
 use lib.IntN.{ℤ}
 use borrow.Author.Tests.{eq-eqb, ne-eqb}
 use Rattle.laws.specs.Lists.{_∈_}
-use Rattle.scratch_tables.specs.Tables.{Tables}
-use Rattle.repair_area.specs.Areas.{badOf, raiseOf}
-use Rattle.repair_model.specs.PackedWords.{field0, field1, field2}
+use Rattle.definitions.specs.Refusals.{row10}
+use Rattle.scratch_tables.specs.Tables.{Tables, tablesOf, dartIn, pastDarts}
+use Rattle.repair_area.specs.Areas.{CoordinatesIn, badOf, raiseOf}
+use Rattle.scratch_tables.specs.Fields.{field0, field1, field2}
 use Rattle.repair_model.specs.Search.{badAt, raiseAt, nextOn, walkOn, walkOn-on, Found, Next}
 
+-- ---- what is asked
+
+-- the word of triangle t's corners is there, and names vertices that have their coordinates, within the limit
+pub record CornersIn (s bs : List ℤ) (t : ℕ) : Type 0 where
+  pub place : dartIn (length s) (3 * t + 1)
+  pub first : CoordinatesIn bs (field0 (tablesOf s .op (3 * t + 1)))
+  pub second : CoordinatesIn bs (field1 (tablesOf s .op (3 * t + 1)))
+  pub third : CoordinatesIn bs (field2 (tablesOf s .op (3 * t + 1)))
+  pub within : row10 bs ≡ false
+
+-- there are `to` triangles: so it is for each inner one, and the walks lead from one to another
+pub record SearchPre (s bs : List ℤ) (to : ℕ) : Type 0 where
+  pub few : to < 65536
+  pub room : 3 * to ≤ pastDarts (length s)
+  pub corners : (t : ℕ) → 0 < t → t < to → CornersIn s bs t
+  pub walks : (c t : ℕ) → c < 3 → t < to → nextOn (tablesOf s) c t < to
+
+-- triangles between `full` and another inner one
+pub corners-between : (s bs : List ℤ) (to full t i : ℕ) → SearchPre s bs to → 0 < full → t < to → full ≤ i → i < t → CornersIn s bs i
+corners-between s bs to full t i P h k l m = P .corners i (omega arith) (omega arith)
+
 -- ---- the corners
+
+module _ (s bs : List ℤ) (t : ℕ) (C : CornersIn s bs t) (w : ℕ) (ew : w ≡ tablesOf s .op (3 * t + 1)) where
+  pub first-there : (p : ℕ) → p ≡ field0 w → CoordinatesIn bs p
+  first-there p e = rw (e, ew) (C .first)
+
+  pub second-there : (q : ℕ) → q ≡ field1 w → CoordinatesIn bs q
+  second-there q e = rw (e, ew) (C .second)
+
+  pub third-there : (r : ℕ) → r ≡ field2 w → CoordinatesIn bs r
+  third-there r e = rw (e, ew) (C .third)
 
 -- w holds the vertices p, q, r at the corners with the labels 0, 1, 2
 module _ (S : Tables) (bs : List ℤ) (t w p q r : ℕ) (ew : w ≡ S .op (3 * t + 1)) (ep : p ≡ field0 w) (eq : q ≡ field1 w) (er : r ≡ field2 w) where
@@ -111,7 +144,7 @@ walkOn-step S c k i g m =
 
 -- the same of one walk, but for those on the rest of it, which is from i on
 pub record Walking (S : Tables) (p : ℕ → Bool) (c steps full t k i r : ℕ) : Type 0 where
-  pub fits : i < 65536
+  pub inside : i < steps
   pub clear : (g : ℕ) → g ∈ walkOn S c steps t → full ≤ g → g < r → (g ∈ walkOn S c k i) ⊎ (p g ≡ false)
 
 module _ (S : Tables) (p : ℕ → Bool) (c steps full t k i r : ℕ) (W : Walking S p c steps full t k i r) where
@@ -119,12 +152,12 @@ module _ (S : Tables) (p : ℕ → Bool) (c steps full t k i r : ℕ) (W : Walki
   walk-ends e g m l h = elim (W .clear g m l h) [ inl q ↦ absurd (List·Memᴰ·not-nil (rw e at q)) | inr q ↦ q ]
 
   -- i has been looked at
-  walk-next : (r′ i′ : ℕ) → 0 < k → r′ ≤ r → (full ≤ i → i < r′ → p i ≡ false) → i′ ≡ nextOn S c i → i′ < 65536 →
+  walk-next : (r′ i′ : ℕ) → 0 < k → r′ ≤ r → (full ≤ i → i < r′ → p i ≡ false) → i′ ≡ nextOn S c i → nextOn S c i < steps →
       Walking S p c steps full t (k - 1) i′ r′
-  walk-next r′ i′ h most here e fits =
+  walk-next r′ i′ h most here e inside =
       let q : k ≡ suc (k - 1) = omega arith in
       record {
-        fits = fits;
+        inside = rw e inside;
         clear = λ g m l n.
             elim (W .clear g m l (omega (arith, most))) [
               | inr b ↦ inr b
@@ -140,14 +173,14 @@ pub record Walks (S : Tables) (p : ℕ → Bool) (steps full t k a b d r : ℕ) 
   pub walk-1 : Walking S p 1 steps full t k b r
   pub walk-2 : Walking S p 2 steps full t k d r
 
-pub walks-begin : (S : Tables) (p : ℕ → Bool) (steps full t : ℕ) → t < 65536 → Walks S p steps full t steps t t t t
+pub walks-begin : (S : Tables) (p : ℕ → Bool) (steps full t : ℕ) → t < steps → Walks S p steps full t steps t t t t
 walks-begin S p steps full t h =
     record {
       least = λ l. l;
       most = omega arith;
-      walk-0 = record { fits = h; clear = λ g m l k. inl m };
-      walk-1 = record { fits = h; clear = λ g m l k. inl m };
-      walk-2 = record { fits = h; clear = λ g m l k. inl m };
+      walk-0 = record { inside = h; clear = λ g m l k. inl m };
+      walk-1 = record { inside = h; clear = λ g m l k. inl m };
+      walk-2 = record { inside = h; clear = λ g m l k. inl m };
     }
 
 module _ (S : Tables) (p : ℕ → Bool) (steps full t k a b d r : ℕ) (W : Walks S p steps full t k a b d r) where
@@ -178,10 +211,13 @@ module _ (S : Tables) (p : ℕ → Bool) (steps full t k a b d r : ℕ) (W : Wal
       walks-end (rw ea (walkOn-home S 0 k)) (rw eb (walkOn-home S 1 k)) (rw ed (walkOn-home S 2 k))
 
   -- a, b and d have been looked at, one after another, and all three walks go on
-  pub walks-next : (r0 r1 r2 a′ b′ d′ : ℕ) → 0 < k → Lower p full a r r0 → Lower p full b r0 r1 → Lower p full d r1 r2 →
-      a′ ≡ nextOn S 0 a → a′ < 65536 → b′ ≡ nextOn S 1 b → b′ < 65536 → d′ ≡ nextOn S 2 d → d′ < 65536 →
+  pub walks-next : ((c t : ℕ) → c < 3 → t < steps → nextOn S c t < steps) → (r0 r1 r2 a′ b′ d′ : ℕ) → 0 < k → Lower p full a r r0 →
+      Lower p full b r0 r1 → Lower p full d r1 r2 → a′ ≡ nextOn S 0 a → b′ ≡ nextOn S 1 b → d′ ≡ nextOn S 2 d →
       Walks S p steps full t (k - 1) a′ b′ d′ r2
-  walks-next r0 r1 r2 a′ b′ d′ h A B D ea fa eb fb ed fd =
+  walks-next on r0 r1 r2 a′ b′ d′ h A B D ea eb ed =
+      let fa = on 0 a (omega arith) (W .walk-0 .inside) in
+      let fb = on 1 b (omega arith) (W .walk-1 .inside) in
+      let fd = on 2 d (omega arith) (W .walk-2 .inside) in
       let m0 = A .most in
       let m1 = B .most in
       let m2 = D .most in

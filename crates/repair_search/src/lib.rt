@@ -1,24 +1,23 @@
 // The next bad triangle, looked for in the order of the numbers. After a raise, of those passed only the ones on the raised triangle's three walks are looked
 // at again.
 use repair_words::corners_at;
-use repair_words::field0;
-use repair_words::field1;
-use repair_words::field2;
 use repair_words::other_walks_at;
 use repair_words::walk_at;
+use scratch_tables::field0;
+use scratch_tables::field1;
+use scratch_tables::field2;
 ghost use mathlib.Core.Path.{_≡_};
-ghost use mathlib.Core.Bool.{false};
 ghost use Prim.Native.Nat.{_+_, _*_, _<_, _≤_};
+ghost use lib.ListN.{length};
 ghost use lib.IntN.{natAbs};
 ghost use Rattle.definitions.specs.Repair.{limit};
-ghost use Rattle.definitions.specs.Refusals.{row10};
-ghost use Rattle.scratch_tables.specs.Tables.{tablesOf};
+ghost use Rattle.scratch_tables.specs.Tables.{dartIn, tablesOf};
 ghost use Rattle.repair_model.specs.Search.{badAt, raiseAt, nextOn, Found, Next};
-ghost use Rattle.repair_search.specs.SearchLoops.{Lower, Lowest};
+ghost use Rattle.repair_search.specs.SearchLoops.{CornersIn, SearchPre, Lower, Lowest};
 
 // triangle t is flat or turned
 fn is_bad(coordinates: &[i64], scratch: &[i64], t: usize) -> bool
-    requires { ⌜ (t < 65536) × (row10 (now coordinates) ≡ false) ⌝ }
+    requires { ⌜ CornersIn (now scratch) (now coordinates) t ⌝ }
     ensures { λ x. ⌜ x ≡ badAt (tablesOf (now (scratch .entry))) (now (coordinates .entry)) t ⌝ }
 {
     let w = corners_at(scratch, t);
@@ -27,7 +26,7 @@ fn is_bad(coordinates: &[i64], scratch: &[i64], t: usize) -> bool
 
 // what it is to be raised by
 pub fn raise_at(coordinates: &[i64], scratch: &[i64], t: usize) -> i64
-    requires { ⌜ (t < 65536) × (row10 (now coordinates) ≡ false) ⌝ }
+    requires { ⌜ CornersIn (now scratch) (now coordinates) t ⌝ }
     ensures is { λ x. ⌜ x ≡ raiseAt (tablesOf (now (scratch .entry))) (now (coordinates .entry)) t ⌝ }
     ensures small { λ x. ⌜ natAbs x ≤ 4 * limit + 1 ⌝ }
 {
@@ -35,9 +34,9 @@ pub fn raise_at(coordinates: &[i64], scratch: &[i64], t: usize) -> i64
     repair_area::raise_of(coordinates, field0(w), field1(w), field2(w))
 }
 
-// the first bad triangle from `from` on, or `to`
+// the first bad triangle from `from` on, or `to`; there are `to` triangles
 pub fn first_bad(coordinates: &[i64], scratch: &[i64], from: usize, to: usize) -> usize
-    requires { ⌜ (from ≤ to) × (to < 65536) × (row10 (now coordinates) ≡ false) ⌝ }
+    requires { ⌜ (0 < from) × (from ≤ to) × SearchPre (now scratch) (now coordinates) to ⌝ }
     ensures { λ r. ⌜ Found (badAt (tablesOf (now (scratch .entry))) (now (coordinates .entry))) from to r ⌝ }
 {
     let mut i = from;
@@ -52,9 +51,8 @@ pub fn first_bad(coordinates: &[i64], scratch: &[i64], from: usize, to: usize) -
 
 // the next triangle on the walk of colour c; a walk that has come to the outer triangle stays there
 fn next_on_walk(scratch: &[i64], c: usize, t: usize) -> usize
-    requires { ⌜ t < 65536 ⌝ }
-    ensures is { λ r. ⌜ r ≡ nextOn (tablesOf (now (scratch .entry))) c t ⌝ }
-    ensures small { λ r. ⌜ r < 65536 ⌝ }
+    requires { ⌜ dartIn (length (now scratch)) (3 * t + 2) ⌝ }
+    ensures { λ r. ⌜ r ≡ nextOn (tablesOf (now (scratch .entry))) c t ⌝ }
 {
     if t == 0 {
         return 0;
@@ -79,7 +77,7 @@ fn lower_bad(
     i: usize,
     low: usize,
 ) -> usize
-    requires { ⌜ (i < 65536) × (low ≤ top) × (row10 (now coordinates) ≡ false) ⌝ }
+    requires { ⌜ (low ≤ top) × (full ≤ i → i < top → CornersIn (now scratch) (now coordinates) i) ⌝ }
     ensures { λ r. ⌜ Lower (badAt (tablesOf (now (scratch .entry))) (now (coordinates .entry))) full i low r ⌝ }
 {
     if top <= i {
@@ -98,7 +96,7 @@ fn lower_bad(
 }
 
 // the lowest-numbered bad triangle on the three walks from t on, not below `full`; t, if there is none below it. The walks are followed together, and the reads
-// for the next step come first, for a step waits only for the one before it on the same walk.
+// for the next step come first, for a step waits only for the one before it on the same walk. There are `steps` triangles.
 fn lowest_on_walks(
     coordinates: &[i64],
     scratch: &[i64],
@@ -106,7 +104,7 @@ fn lowest_on_walks(
     full: usize,
     t: usize,
 ) -> usize
-    requires { ⌜ (t < 65536) × (row10 (now coordinates) ≡ false) ⌝ }
+    requires { ⌜ (0 < full) × (t < steps) × SearchPre (now scratch) (now coordinates) steps ⌝ }
     ensures { λ r. ⌜ Lowest (tablesOf (now (scratch .entry))) (badAt (tablesOf (now (scratch .entry))) (now (coordinates .entry))) steps full t r ⌝ }
 {
     if full == t {
@@ -137,7 +135,7 @@ fn lowest_on_walks(
 
 // the first bad triangle after a raise of t, below which none was bad; `to`, if there is none. Those below `full` are not looked at. There are `to` triangles.
 pub fn next_bad(coordinates: &[i64], scratch: &[i64], full: usize, t: usize, to: usize) -> usize
-    requires { ⌜ (full ≤ t) × (t ≤ to) × (to < 65536) × (row10 (now coordinates) ≡ false) ⌝ }
+    requires { ⌜ (0 < full) × (full ≤ t) × (t < to) × SearchPre (now scratch) (now coordinates) to ⌝ }
     ensures { λ r. ⌜ Next (tablesOf (now (scratch .entry))) (now (coordinates .entry)) full t to r ⌝ }
 {
     let low = lowest_on_walks(coordinates, scratch, to, full, t);

@@ -1,5 +1,5 @@
 -- The entries of a preorder one after another, each with x more: what the loop over them asks, keeps and gives. Assumes nothing.
-use Prim.Native.Nat.{ℕ, zero, suc, _+_, _-_, _*_, _/_, _≤_, _<_, _^_}
+use Prim.Native.Nat.{ℕ, zero, suc, _+_, _-_, _*_, _≤_, _<_, _^_}
 use mathlib.Core.Path.{_≡_, refl, sym, ap, _∙_}
 use mathlib.Core.Bool.{Bool, true, false, cond}
 use mathlib.Core.List.{List}
@@ -10,7 +10,7 @@ use lib.IntN.{ℤ, pos, natAbs, _+ℤ_}
 use Rattle.definitions.specs.Repair.{limit}
 use Rattle.theory_realizer.specs.Units.{bit}
 use Rattle.theory_subtrees.specs.Subtree.{times}
-use Rattle.scratch_tables.specs.Tables.{wordAt, column, tablesOf, count-in, mark-in, mark-even, countStart, markStart}
+use Rattle.scratch_tables.specs.Tables.{wordAt, column, tablesOf, count-in, extra-in, countStart, markStart}
 use Rattle.repair_update.specs.Increase.{More, more-none, more-then, more-same, single, more-set, Small, small-later, small-set}
 
 -- x more in coordinate e of each vertex in the k entries of a preorder from place a on
@@ -120,16 +120,10 @@ module _ (s : List ℤ) where
       let f : suc (countStart (length s) + a) ≡ countStart (length s) + suc a = omega arith in
       rw (count-in s a (omega arith), f) (ap (λ (m : ℕ). bit (eqb (wordAt s (countStart (length s) + a)) i) + m) (count-order k (suc a) i (omega arith)))
 
-  pub mark-cell : (a : ℕ) → a < column (length s) → tablesOf s .mark (2 * a) ≡ wordAt s (markStart (length s) + a)
-  mark-cell a h =
-      let e : 2 * a / 2 ≡ a = omega arith in
-      mark-in s (2 * a) (omega arith) ∙ ap (wordAt s) (mark-even (column (length s)) (2 * a) (omega arith)
-      ∙ ap (λ (m : ℕ). markStart (length s) + m) e)
-
   pub mark-order : (k a i : ℕ) → a + k ≤ column (length s) → times (wordAt s) (markStart (length s) + a) k i
       ≡ times (λ j. tablesOf s .mark (2 * j)) a k i
   unfolding times
   mark-order zero a i h = refl
   mark-order (suc k) a i h =
       let f : suc (markStart (length s) + a) ≡ markStart (length s) + suc a = omega arith in
-      rw (mark-cell a (omega arith), f) (ap (λ (m : ℕ). bit (eqb (wordAt s (markStart (length s) + a)) i) + m) (mark-order k (suc a) i (omega arith)))
+      rw (extra-in s a (omega arith), f) (ap (λ (m : ℕ). bit (eqb (wordAt s (markStart (length s) + a)) i) + m) (mark-order k (suc a) i (omega arith)))

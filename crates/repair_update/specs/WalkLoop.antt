@@ -10,18 +10,18 @@ use lib.Dec.{eqb}
 use lib.ListN.{length, getD, set}
 use lib.IntN.{ℤ, pos, natAbs, _+ℤ_, _*ℤ_}
 use borrow.Author.Tests.{eq-eqb, ne-eqb}
-use Rattle.definitions.specs.Mesh.{org}
 use Rattle.definitions.specs.Backward.{coordinate}
 use Rattle.definitions.specs.Repair.{limit}
 use Rattle.definitions.specs.Refusals.{row10}
 use Rattle.theory_realizer.specs.Units.{bit}
-use Rattle.scratch_tables.specs.Tables.{Tables, wordAt, tablesOf, count-in, countStart, markStart}
+use Rattle.scratch_tables.specs.Tables.{Tables, wordAt, tablesOf, dartIn, count-in, extra-in, countStart, markStart}
+use Rattle.scratch_tables.specs.Fields.{field0, field1, field2, field3}
+use Rattle.labels_tables.specs.Peeling.{peelingOf, peeling}
 use Rattle.maps_limits.specs.Limits.{range}
-use Rattle.repair_model.specs.PackedWords.{field0, field1, field2, field3}
 use Rattle.repair_model.specs.Raise.{Moved}
 use Rattle.repair_model.specs.Update.{timesMoved, moved, timesMoved-home, timesMoved-on, moved-yes, moved-no}
 use Rattle.repair_update.specs.Increase.{none, More, more-none, more-then, more-same, single, more-set, Small, small-later, small-set}
-use Rattle.repair_update.specs.RangeLoop.{along, manyAdded, RangePre, count-order, mark-order, mark-cell}
+use Rattle.repair_update.specs.RangeLoop.{along, manyAdded, RangePre, count-order, mark-order}
 
 -- ---- what is asked and given
 
@@ -33,7 +33,7 @@ pub record Words (n : ℕ) (S : Tables) : Type 0 where
   pub right : (t : ℕ) → 0 < t → t < 2 * n - 4 → field3 (S .op (3 * t)) ≡ 2 → (field1 (S .op (3 * t)) + field2 (S .op (3 * t)) ≤ n)
       × ((j : ℕ) → field1 (S .op (3 * t)) ≤ j → j < field1 (S .op (3 * t)) + field2 (S .op (3 * t)) → S .mark (2 * j) < n)
 
-pub record UpdatePre (n : ℕ) (ts : List ℕ) (s bs : List ℤ) (t : ℕ) (x : ℤ) : Type 0 where
+pub record UpdatePre (n : ℕ) (s bs : List ℤ) (t : ℕ) (x : ℤ) : Type 0 where
   pub least : 3 ≤ n
   pub most : n ≤ 4096
   pub room : 10 * n ≤ length s
@@ -41,15 +41,15 @@ pub record UpdatePre (n : ℕ) (ts : List ℕ) (s bs : List ℤ) (t : ℕ) (x : 
   pub within : row10 bs ≡ false
   pub inside : t < 2 * n - 4
   pub light : natAbs x ≤ 2 * limit + 1
-  pub first : org ts 0 < n
-  pub last : org ts 2 < n
+  pub first : peeling s .origin 0 < n
+  pub last : peeling s .origin 2 < n
   pub words : Words n (tablesOf s)
 
 -- each vertex has x more as often as the walk comes by it, v1 in coordinate 1 and v0 in coordinate 0 once more
-abbrev pub WalkMoved : ℕ → List ℕ → Tables → ℕ → ℤ → List ℤ → List ℤ → Type 0
-WalkMoved n ts S t x =
-    Moved n (λ i. timesMoved 2 (λ j. S .mark (2 * j)) (S .op) (2 * n - 4) t i + bit (eqb i (org ts 0)))
-    (λ i. timesMoved 1 (S .count) (S .op) (2 * n - 4) t i + bit (eqb i (org ts 2))) x
+abbrev pub WalkMoved : ℕ → Tables → ℕ → ℤ → List ℤ → List ℤ → Type 0
+WalkMoved n S t x =
+    Moved n (λ i. timesMoved 2 (λ j. S .mark (2 * j)) (S .op) (2 * n - 4) t i + bit (eqb i (peelingOf S .origin 0)))
+    (λ i. timesMoved 1 (S .count) (S .op) (2 * n - 4) t i + bit (eqb i (peelingOf S .origin 2))) x
 
 -- ---- one word
 
@@ -85,13 +85,13 @@ module _ (S : Tables) (w : ℕ) where
 unfoldable pub preorderAt : ℕ → ℕ → ℕ
 preorderAt words f = cond (eqb f 1) (countStart words) (markStart words)
 
-pub preorder-left : (words f : ℕ) → f ≡ 1 → countStart words ≡ preorderAt words f
+pub preorder-left : (words f r : ℕ) → f ≡ 1 → r ≡ countStart words → r ≡ preorderAt words f
 unfolding preorderAt
-preorder-left words f e = rw (eq-eqb f 1 e)
+preorder-left words f r e q = rw (eq-eqb f 1 e) q
 
-pub preorder-right : (words f : ℕ) → f ≢ 1 → markStart words ≡ preorderAt words f
+pub preorder-right : (words f r : ℕ) → f ≢ 1 → r ≡ markStart words → r ≡ preorderAt words f
 unfolding preorderAt
-preorder-right words f d = rw (ne-eqb f 1 d)
+preorder-right words f r d q = rw (ne-eqb f 1 d) q
 
 -- what is asked of a word that is followed, with `added` numbers added so far
 pub record SubtreePre (s bs : List ℤ) (w : ℕ) (x : ℤ) : Type 0 where
@@ -143,7 +143,7 @@ module _ (s bs : List ℤ) (w : ℕ) (x : ℤ) (M : SubtreePre s bs w x) where
         vertices = λ p h l.
             let j = p - markStart (length s) in
             let q : markStart (length s) + j ≡ p = omega (arith, ea, h) in
-            let c = mark-cell s j (omega (arith, ea, ee, l, f .0, M .room)) in
+            let c = extra-in s j (omega (arith, ea, ee, l, f .0, M .room)) in
             let b = f .1 j (omega (arith, ea, h)) (omega (arith, ea, ee, h, l)) in
             omega (arith, c, b, ap (wordAt s) q, M .long);
         light = M .light;
@@ -191,11 +191,11 @@ module _ (s bs : List ℤ) (w : ℕ) (x : ℤ) (M : SubtreePre s bs w x) where
         elim (ℕ-discrete f 1) [
           | yes e ↦
               let z : c ≡ 1 = omega arith in
-              rw z (left-range (sym ef ∙ e) a end (omega (arith, ea, preorder-left (length s) f e)) ee)
+              rw z (left-range (sym ef ∙ e) a end (omega (arith, ea, preorder-left (length s) f (countStart (length s)) e refl)) ee)
           | no e ↦
               let z : c ≡ 0 = omega arith in
               let g : f ≡ 2 = omega arith in
-              rw z (right-range (sym ef ∙ g) a end (omega (arith, ea, preorder-right (length s) f e)) ee)
+              rw z (right-range (sym ef ∙ g) a end (omega (arith, ea, preorder-right (length s) f (markStart (length s)) e refl)) ee)
         ]
 
     pub subtree-added : (bs′ : List ℤ) → More (along (wordAt s) a (end - a) c) x bs bs′ →
@@ -204,11 +204,11 @@ module _ (s bs : List ℤ) (w : ℕ) (x : ℤ) (M : SubtreePre s bs w x) where
         elim (ℕ-discrete f 1) [
           | yes e ↦
               let z : c ≡ 1 = omega arith in
-              left-added bs′ a end (sym ef ∙ e) (omega (arith, ea, preorder-left (length s) f e)) ee (rw z at more) small
+              left-added bs′ a end (sym ef ∙ e) (omega (arith, ea, preorder-left (length s) f (countStart (length s)) e refl)) ee (rw z at more) small
           | no e ↦
               let z : c ≡ 0 = omega arith in
               let g : f ≡ 2 = omega arith in
-              right-added bs′ a end (sym ef ∙ g) (omega (arith, ea, preorder-right (length s) f e)) ee (rw z at more) small
+              right-added bs′ a end (sym ef ∙ g) (omega (arith, ea, preorder-right (length s) f (markStart (length s)) e refl)) ee (rw z at more) small
         ]
 
   pub none-added : field3 w ≢ 1 → field3 w ≢ 2 → SubtreeAdded s w x bs bs
@@ -293,8 +293,8 @@ module _ {s bs₀ : List ℤ} {steps t : ℕ} {x : ℤ} {bs : List ℤ} {k at : 
   pub walking-over : k ≡ 0 → Walked s steps t x bs₀ bs
   walking-over e = walking-ends (λ c i. rw e (amount-over (tablesOf s) at c i))
 
-  pub walking-low : at < 65536
-  walking-low = omega (arith, G .inside, G .asked .all, G .asked .most)
+  pub walking-there : dartIn (length s) (3 * at)
+  walking-there = omega (arith, G .inside, G .asked .all, G .asked .room)
 
   module _ (d : at ≢ 0) (h : 0 < k) where
     pub walking-subtree : SubtreePre s bs (tablesOf s .op (3 * at)) x
@@ -340,7 +340,7 @@ small-start bs e = record { small = λ j. omega (arith, range bs e j) }
 bit-swapped : (v i : ℕ) → bit (eqb v i) ≡ bit (eqb i v)
 bit-swapped v i = elim (ℕ-discrete v i) [ yes e ↦ rw (eq-eqb v i e, eq-eqb i v (sym e)) | no d ↦ rw (ne-eqb v i d, ne-eqb i v (λ e. d (sym e))) ]
 
-module _ (n : ℕ) (ts : List ℕ) (s bs : List ℤ) (t : ℕ) (x : ℤ) (Y : UpdatePre n ts s bs t x) where
+module _ (n : ℕ) (s bs : List ℤ) (t : ℕ) (x : ℤ) (Y : UpdatePre n s bs t x) where
   pub walk-pre : WalkPre s bs (2 * n - 4) t x
   walk-pre =
       record {
@@ -356,14 +356,14 @@ module _ (n : ℕ) (ts : List ℕ) (s bs : List ℤ) (t : ℕ) (x : ℤ) (Y : Up
       }
 
   -- v0 after the walk, and v1 after it
-  module _ (bs₁ : List ℤ) (W : Walked s (2 * n - 4) t x bs bs₁) (v0 : ℕ) (e0 : v0 ≡ org ts 0) where
+  module _ (bs₁ : List ℤ) (W : Walked s (2 * n - 4) t x bs bs₁) (v0 : ℕ) (e0 : v0 ≡ peeling s .origin 0) where
     pub first-room : (3 * v0 < length bs₁) × (natAbs (getD bs₁ (3 * v0) (pos 0)) + natAbs x < 2 ^ 63)
     first-room = (
       omega (arith, e0, Y .first, W .more .long, Y .long),
       omega (arith, W .small .small (3 * v0), Y .light, Y .most),
     )
 
-    module _ (bs₂ : List ℤ) (made : bs₂ ≡ set bs₁ (3 * v0) (getD bs₁ (3 * v0) (pos 0) +ℤ x)) (v1 : ℕ) (e1 : v1 ≡ org ts 2) where
+    module _ (bs₂ : List ℤ) (made : bs₂ ≡ set bs₁ (3 * v0) (getD bs₁ (3 * v0) (pos 0) +ℤ x)) (v1 : ℕ) (e1 : v1 ≡ peeling s .origin 2) where
       first-small : Small (4096 * (2 * n - 4) + 1) bs₂
       first-small = small-set (4096 * (2 * n - 4)) (3 * v0) x bs₁ bs₂ (W .small) (Y .light) (first-room .0) made
 
@@ -379,7 +379,7 @@ module _ (n : ℕ) (ts : List ℕ) (s bs : List ℤ) (t : ℕ) (x : ℤ) (Y : Up
       )
 
       pub moved-all : (bs₃ : List ℤ) → bs₃ ≡ set bs₂ (3 * v1 + 1) (getD bs₂ (3 * v1 + 1) (pos 0) +ℤ x) →
-          WalkMoved n ts (tablesOf s) t x bs bs₃
+          WalkMoved n (tablesOf s) t x bs bs₃
       unfolding amount
       moved-all bs₃ made′ =
           let S = tablesOf s in
@@ -388,12 +388,12 @@ module _ (n : ℕ) (ts : List ℕ) (s bs : List ℤ) (t : ℕ) (x : ℤ) (Y : Up
             long = A .long;
             more0 = λ i h.
                 let e : timesMoved 2 (λ j. S .mark (2 * j)) (S .op) (2 * n - 4) t i + bit (eqb v0 i) + 0
-                ≡ timesMoved 2 (λ j. S .mark (2 * j)) (S .op) (2 * n - 4) t i + bit (eqb i (org ts 0)) =
+                ≡ timesMoved 2 (λ j. S .mark (2 * j)) (S .op) (2 * n - 4) t i + bit (eqb i (peeling s .origin 0)) =
                 omega (arith, bit-swapped v0 i, ap (λ (v : ℕ). bit (eqb i v)) e0) in
                 A .more 0 i (omega arith) (omega (arith, Y .long)) ∙ ap (λ (m : ℕ). coordinate bs 0 i +ℤ pos m *ℤ x) e;
             more1 = λ i h.
                 let e : timesMoved 1 (S .count) (S .op) (2 * n - 4) t i + 0 + bit (eqb v1 i)
-                ≡ timesMoved 1 (S .count) (S .op) (2 * n - 4) t i + bit (eqb i (org ts 2)) =
+                ≡ timesMoved 1 (S .count) (S .op) (2 * n - 4) t i + bit (eqb i (peeling s .origin 2)) =
                 omega (arith, bit-swapped v1 i, ap (λ (v : ℕ). bit (eqb i v)) e1) in
                 A .more 1 i (omega arith) (omega (arith, Y .long)) ∙ ap (λ (m : ℕ). coordinate bs 1 i +ℤ pos m *ℤ x) e;
             same2 = λ i h. A .more 2 i (omega arith) (omega (arith, Y .long)) ∙ sym (none (coordinate bs 2 i) x);

@@ -1,17 +1,17 @@
 // The subtrees that a raise of triangle t by x moves: the colour-2 walk of t goes from word to word, and each names a range of a preorder. That of colour 0
 // goes with coordinate 1, that of colour 1 with coordinate 0; v0 and v1 are in no subtree and get theirs in the end.
-use repair_words::field0;
-use repair_words::field1;
-use repair_words::field2;
-use repair_words::field3;
+use labels_tables::origin;
 use repair_words::walk_at;
-use scratch_tables::origin;
+use scratch_tables::field0;
+use scratch_tables::field1;
+use scratch_tables::field2;
+use scratch_tables::field3;
 ghost use mathlib.Core.Path.{_≡_};
 ghost use Prim.Native.Nat.{ℕ, _+_, _-_, _*_, _<_, _≤_, _^_};
 ghost use lib.ListN.{length, getD, set};
 ghost use lib.IntN.{pos, natAbs, _+ℤ_};
-ghost use Rattle.scratch_tables.specs.Tables.{wordAt, tablesOf};
-ghost use Rattle.repair_model.specs.PackedWords.{field0};
+ghost use Rattle.scratch_tables.specs.Tables.{wordAt, tablesOf, dartIn};
+ghost use Rattle.scratch_tables.specs.Fields.{field0};
 ghost use Rattle.repair_update.specs.Increase.{More, Small};
 ghost use Rattle.repair_update.specs.RangeLoop.{along, RangePre};
 ghost use Rattle.repair_update.specs.WalkLoop.{preorderAt, SubtreePre, SubtreeAdded, WalkPre, Walked, UpdatePre, WalkMoved};
@@ -68,7 +68,7 @@ fn add_to_subtree(coordinates: &mut [i64], scratch: &[i64], w: usize, x: i64)
 
 // one step of the walk, to the next triangle
 fn step(coordinates: &mut [i64], scratch: &[i64], t: usize, x: i64) -> usize
-    requires { ⌜ (t < 65536) × SubtreePre (now scratch) (now coordinates) (tablesOf (now scratch) .op (3 * t)) x ⌝ }
+    requires { ⌜ dartIn (length (now scratch)) (3 * t) × SubtreePre (now scratch) (now coordinates) (tablesOf (now scratch) .op (3 * t)) x ⌝ }
     ensures next { λ r. ⌜ r ≡ field0 (tablesOf (now (scratch .entry)) .op (3 * t)) ⌝ }
     ensures moved { λ r. ⌜ SubtreeAdded (now (scratch .entry)) (tablesOf (now (scratch .entry)) .op (3 * t)) x (now (coordinates .entry))
         (now (coordinates .exit)) ⌝ }
@@ -95,20 +95,13 @@ fn walk(coordinates: &mut [i64], scratch: &[i64], steps: usize, t: usize, x: i64
 }
 
 // x more in the coordinates of which the weight of triangle t is part, but for coordinate 2
-pub fn add_raise(
-    n: usize,
-    triangles: &[u16],
-    coordinates: &mut [i64],
-    scratch: &[i64],
-    t: usize,
-    x: i64,
-)
-    requires { ⌜ UpdatePre n (now triangles) (now scratch) (now coordinates) t x ⌝ }
-    ensures { λ r. ⌜ WalkMoved n (now (triangles .entry)) (tablesOf (now (scratch .entry))) t x (now (coordinates .entry)) (now (coordinates .exit)) ⌝ }
+pub fn add_raise(n: usize, coordinates: &mut [i64], scratch: &[i64], t: usize, x: i64)
+    requires { ⌜ UpdatePre n (now scratch) (now coordinates) t x ⌝ }
+    ensures { λ r. ⌜ WalkMoved n (tablesOf (now (scratch .entry))) t x (now (coordinates .entry)) (now (coordinates .exit)) ⌝ }
 {
     walk(coordinates, scratch, 2 * n - 4, t, x);
-    let v0 = origin(triangles, 0);
+    let v0 = origin(scratch, 0);
     add_at(coordinates, 3 * v0, x);
-    let v1 = origin(triangles, 2);
+    let v1 = origin(scratch, 2);
     add_at(coordinates, 3 * v1 + 1, x);
 }

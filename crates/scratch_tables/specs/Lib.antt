@@ -1,2 +1,3 @@
--- The four tables in the lent scratch.
+-- The four tables in the lent scratch, and four numbers in a word of them.
 pub mod Tables
+pub mod Fields

@@ -19,7 +19,7 @@ returns-2 c =
     let start : tie.Start = search in
     let examined : tie.After-examine = search in
     peeled _ _ _ (start .pre) (examined .examine .last .1 .1 .0) (examined .examine .result) (search) (examined .examine .ensures) _
-    (c .before .peel .ensures)
+    (omega arith) (c .before .peel .ensures)
 
 pub label-mesh-spec : {M : Type 1} → statement M
 label-mesh-spec =

@@ -1,7 +1,7 @@
 -- `labels_call::run_labels` meets its contract: each way out is a law of the definition. Assumes nothing.
 use native.Mathlib.Omega.{arith}
 use Rattle.mesh_check.specs.Stages.{has-lent}
-use Rattle.labels_call.specs.Labelling.{labelled-refused, labelled-accepted, fits, written}
+use Rattle.labels_call.specs.Labelling.{labelled-refused, labelled-accepted, can-write, written}
 use Rattle.labels_call.specs.CallOutcomes.{labels-long, runs-refused, runs-written}
 use borrow.Author.Needs.{needs}
 use Rattle.labels_call.proofs.run_labels.Statement.{statement}
@@ -22,7 +22,7 @@ write-labels-requires c κs =
     let start : tie.Start = search in
     let labelled : tie.After-label-mesh = search in
     let A = labelled-accepted _ _ (labelled .label-mesh .last .1 .1 .0) (labelled .label-mesh .result) (search) (labelled .label-mesh .ensures) in
-    fits _ _ _ (A .1) (start .args .labels .now) (labels-long _ _ (start .args .labels .now) _ (start .pre))
+    can-write _ _ _ (A .1) (start .args .labels .now) (labels-long _ _ (start .args .labels .now) _ (start .pre))
 
 returns-2 : tie.Need-returns-2
 returns-2 c =

@@ -1,28 +1,29 @@
 -- `labels_peel::init` meets its contract. Assumes nothing.
-use native.Mathlib.Omega.{arith}
-use Rattle.labels_peel.specs.LoopLaws.{room-kept, init-is}
+use Rattle.labels_model.specs.Preconditions.{room-kept}
+use Rattle.labels_peel.specs.LoopLaws.{mesh-cleared, mesh-degrees, mesh-frontier, init-is}
 use borrow.Author.Needs.{needs}
 use Rattle.labels_peel.proofs.init.Statement.{statement}
 use Rattle.labels_peel.proofs.init.Tie as tie
 
 init-degrees-requires : tie.Need-init-degrees-requires
-init-degrees-requires c κs = search room-kept
+init-degrees-requires c κs = (search (room-kept, needs), search mesh-cleared)
 
 init-frontier-requires : tie.Need-init-frontier-requires
-init-frontier-requires c κs = search room-kept
-
-init-labels-requires : tie.Need-init-labels-requires
-init-labels-requires c κs =
+init-frontier-requires c κs =
     let start : tie.Start = search in
-    let after-clear-degrees : tie.After-clear-degrees = search in
-    let after-init-degrees : tie.After-init-degrees = search in
-    let after-init-frontier : tie.After-init-frontier = search in
-    omega (
-      arith,
-      after-init-frontier .init-frontier .kept .1 .0,
-      after-init-degrees .init-degrees .kept .1 .0,
-      after-clear-degrees .clear-degrees .kept .1 .0,
-      start .pre .0 .vertices 0 .room,
+    let cleared : tie.After-clear-vertices = search in
+    let degrees : tie.After-init-degrees = search in
+    (search (room-kept, needs), mesh-degrees (mesh-cleared (start .pre .1) (cleared .clear-vertices .ensures)) (degrees .init-degrees .ensures))
+
+init-sets-requires : tie.Need-init-sets-requires
+init-sets-requires c κs =
+    let start : tie.Start = search in
+    let cleared : tie.After-clear-vertices = search in
+    let degrees : tie.After-init-degrees = search in
+    let frontier : tie.After-init-frontier = search in (
+      search (room-kept, needs),
+      mesh-frontier (mesh-degrees (mesh-cleared (start .pre .1) (cleared .clear-vertices .ensures)) (degrees .init-degrees .ensures))
+          (frontier .init-frontier .ensures),
     )
 
 returns : tie.Need-returns
@@ -35,6 +36,6 @@ init-spec =
     (λ c κs. search needs)
     init-degrees-requires
     init-frontier-requires
-    init-labels-requires
+    init-sets-requires
     (λ c. search needs)
     returns)

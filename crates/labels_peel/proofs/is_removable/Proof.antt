@@ -1,12 +1,8 @@
 -- `labels_peel::is_removable` meets its contract. Assumes nothing.
-use native.Mathlib.Omega.{arith}
 use Rattle.labels_peel.specs.LoopLaws.{isRemovable-not, isRemovable-not-0, isRemovable-but-2}
 use borrow.Author.Needs.{needs}
 use Rattle.labels_peel.proofs.is_removable.Statement.{statement}
 use Rattle.labels_peel.proofs.is_removable.Tie as tie
-
-frontier-degree-requires : tie.Need-frontier-degree-requires
-frontier-degree-requires c κs = omega arith
 
 returns : tie.Need-returns
 returns c = search isRemovable-not
@@ -21,7 +17,7 @@ pub is-removable-spec : {M : Type 1} → statement M
 is-removable-spec =
     tie.close
     (tie.spec
-    frontier-degree-requires
+    (λ c κs. search needs)
     returns
     (λ c κs. search needs)
     returns-2

@@ -1,7 +1,4 @@
--- `labels_tables::opposite` meets its contract, from that of `get_op`. Assumes nothing.
-use mathlib.Core.Path.{ap}
-use native.Mathlib.Omega.{arith}
-use Prim.Native.Nat.{ℕ, _%_}
+-- `labels_tables::opposite` meets its contract. Assumes nothing.
 use Rattle.labels_tables.specs.LabelledTables.{oppositeIn}
 use borrow.Author.Needs.{needs}
 use Rattle.labels_tables.proofs.opposite.Statement.{statement}
@@ -9,7 +6,7 @@ use Rattle.labels_tables.proofs.opposite.Tie as tie
 
 returns : tie.Need-returns
 unfolding oppositeIn
-returns c = (ap (λ (x : ℕ). x % 65536) (c .get-op .ensures .0), omega arith)
+returns c = let from : tie.After-next-dart = search in (rw (oppositeIn, ← from .next-dart .ensures) (c .turn .ensures .0), c .turn .ensures .1)
 
 pub opposite-spec : {M : Type 1} → statement M
-opposite-spec = tie.close (tie.spec (λ c κs. search needs) returns)
+opposite-spec = tie.close (tie.spec (λ c κs. search needs) (λ c κs. search needs) returns)

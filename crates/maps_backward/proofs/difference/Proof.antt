@@ -6,7 +6,7 @@ use Rattle.maps_backward.proofs.difference.Statement.{statement}
 use Rattle.maps_backward.proofs.difference.Tie as tie
 
 minus-requires : tie.Need-minus-requires
-minus-requires c κs = let start : tie.Start = search in omega (coordinate-size _ (start .pre .3), sizes)
+minus-requires c κs = let start : tie.Start = search in omega (coordinate-size _ (start .pre .2), sizes)
 
 returns : tie.Need-returns
 returns c = search values

@@ -26,8 +26,8 @@ loop-again c =
     let at-loop : tie.At-loop Inv-loop μ-loop = search in
     let in-loop : tie.In-loop Inv-loop μ-loop = search in
     let past : tie.After-past-darts Inv-loop μ-loop = search in
-    let after-at : tie.After-at Inv-loop μ-loop = search in
-    let a = start .args in let s = a .scratch .now in let i = at-loop .loop .i in let x = after-at .at in (
+    let got : tie.After-get Inv-loop μ-loop = search in
+    let a = start .args in let s = a .scratch .now in let i = at-loop .loop .i in let x = got .get in (
       copied-more s (a .weights .now) (at-loop .loop .weights) (c .before .put .last .0) i (past .past-darts .result + i) (x .result) (at-loop .loop .inv .0)
           (in-loop .loop-test .taken) (omega (arith, past .past-darts .ensures .0)) (x .ensures)
           (c .before .put .ensures ∙ ap (set (at-loop .loop .weights) i) (held (x .result) (x .ok))),

@@ -23,25 +23,55 @@ returns-2 c =
     let A = labelled-accepted _ _ (labelled .label-mesh .last .1 .1 .0) (labelled .label-mesh .result) (search) (labelled .label-mesh .ensures) in
     backward-10 _ _ _ _ _ (start .pre) (A .0 .2) (cc)
 
+off-corner-requires : tie.Need-off-corner-requires
+off-corner-requires c κs =
+    let start : tie.Start = search in
+    let labelled : tie.After-label-mesh = search in
+    let A = labelled-accepted _ _ (labelled .label-mesh .last .1 .1 .0) (labelled .label-mesh .result) (search) (labelled .label-mesh .ensures) in
+    (_, start .args .triangles .now, _, A .1 .labelled, omega arith)
+
 returns-3 : tie.Need-returns-3
 returns-3 c =
     let start : tie.Start = search in
     let labelled : tie.After-label-mesh = search in
-    let A = labelled-accepted _ _ (labelled .label-mesh .last .1 .1 .0) (labelled .label-mesh .result) (search) (labelled .label-mesh .ensures) in
-    backward-11 _ _ _ _ _ (start .pre) (A .0 .2) (cc) (cc)
+    let accepted : tie.After-enum-told = search in
+    let corner : tie.After-off-corner = search in
+    let A = labelled-accepted _ _ (labelled .label-mesh .last .1 .1 .0) (labelled .label-mesh .result) (accepted .enum-told .given .1)
+    (labelled .label-mesh .ensures) in
+    backward-11 _ _ _ _ _ (start .pre) (A .0 .2) (cc) (sym (corner .off-corner .ensures _ _ _ (A .1 .labelled)) ∙ c .if2 .taken)
 
 off-sum-requires : tie.Need-off-sum-requires
-off-sum-requires c κs = (omega arith, (cc))
+off-sum-requires c κs =
+    let start : tie.Start = search in
+    let labelled : tie.After-label-mesh = search in
+    let accepted : tie.After-enum-told = search in
+    let A = labelled-accepted _ _ (labelled .label-mesh .last .1 .1 .0) (labelled .label-mesh .result) (accepted .enum-told .given .1)
+    (labelled .label-mesh .ensures) in
+    ((start .args .triangles .now, _, A .1 .labelled), omega arith, (cc))
 
 returns-4 : tie.Need-returns-4
 returns-4 c =
     let start : tie.Start = search in
     let labelled : tie.After-label-mesh = search in
-    let A = labelled-accepted _ _ (labelled .label-mesh .last .1 .1 .0) (labelled .label-mesh .result) (search) (labelled .label-mesh .ensures) in
-    backward-12 _ _ _ _ _ (start .pre) (A .0 .2) (cc) (cc) (cc)
+    let accepted : tie.After-enum-told = search in
+    let corner : tie.After-off-corner = search in
+    let on-corner : tie.Else2 = search in
+    let sum : tie.After-off-sum = search in
+    let A = labelled-accepted _ _ (labelled .label-mesh .last .1 .1 .0) (labelled .label-mesh .result) (accepted .enum-told .given .1)
+    (labelled .label-mesh .ensures) in
+    backward-12 _ _ _ _ _ (start .pre) (A .0 .2) (cc) (sym (corner .off-corner .ensures _ _ _ (A .1 .labelled)) ∙ on-corner .if2 .left)
+    (sym (sum .off-sum .ensures _ _ (A .1 .labelled)) ∙ c .if3 .taken)
 
 weights-past-limit-requires : tie.Need-weights-past-limit-requires
-weights-past-limit-requires c κs = (omega arith, omega arith, (cc))
+weights-past-limit-requires c κs =
+    let start : tie.Start = search in
+    let labelled : tie.After-label-mesh = search in
+    let accepted : tie.After-enum-told = search in
+    let in-range : tie.Else1 = search in
+    let range : tie.After-out-of-range = search in
+    let A = labelled-accepted _ _ (labelled .label-mesh .last .1 .1 .0) (labelled .label-mesh .result) (accepted .enum-told .given .1)
+    (labelled .label-mesh .ensures) in
+    ((start .args .triangles .now, _, A .1 .labelled), omega arith, sym (range .out-of-range .ensures) ∙ in-range .if1 .left)
 
 returns-5 : tie.Need-returns-5
 returns-5 c =
@@ -50,16 +80,16 @@ returns-5 c =
     let accepted : tie.After-enum-told = search in
     let past : tie.After-weights-past-limit = search in
     let on-sum : tie.Else3 = search in
-    let sum = on-sum .before in
-    let on-corner = sum .before in
-    let corner = on-corner .before in
-    let in-range = corner .before in
-    let range = in-range .before in
-    let ten = sym (range .out-of-range .ensures) ∙ in-range .if1 .left in
-    let eleven = sym (corner .off-corner .ensures) ∙ on-corner .if2 .left in
-    let twelve = sym (sum .off-sum .ensures) ∙ on-sum .if3 .left in
+    let sum : tie.After-off-sum = search in
+    let on-corner : tie.Else2 = search in
+    let corner : tie.After-off-corner = search in
+    let in-range : tie.Else1 = search in
+    let range : tie.After-out-of-range = search in
     let A = labelled-accepted _ _ (labelled .label-mesh .last .1 .1 .0) (labelled .label-mesh .result) (accepted .enum-told .given .1)
     (labelled .label-mesh .ensures) in
+    let ten = sym (range .out-of-range .ensures) ∙ in-range .if1 .left in
+    let eleven = sym (corner .off-corner .ensures _ _ _ (A .1 .labelled)) ∙ on-corner .if2 .left in
+    let twelve = sym (sum .off-sum .ensures _ _ (A .1 .labelled)) ∙ on-sum .if3 .left in
     let drawing : LabelledDrawing _ _ _ _ _ = record { peeled = A .1; corners = eleven; sums = twelve } in
     let nine = past .weights-past-limit .ensures .0 _ _ drawing in
     backward-9 _ _ _ _ _ (start .pre) (A .0 .2) ten eleven twelve (sym nine ∙ c .if4 .taken)
@@ -71,23 +101,26 @@ returns-6 c =
     let accepted : tie.After-enum-told = search in
     let past : tie.After-weights-past-limit = search in
     let wrote : tie.After-write-weights = search in
-    let on-sum : tie.Else3 = search in
-    let sum = on-sum .before in
-    let on-corner = sum .before in
-    let corner = on-corner .before in
-    let in-range = corner .before in
-    let range = in-range .before in
-    let ten = sym (range .out-of-range .ensures) ∙ in-range .if1 .left in
-    let eleven = sym (corner .off-corner .ensures) ∙ on-corner .if2 .left in
-    let twelve = sym (sum .off-sum .ensures) ∙ on-sum .if3 .left in
     let within : tie.Else4 = search in
+    let on-sum : tie.Else3 = search in
+    let sum : tie.After-off-sum = search in
+    let on-corner : tie.Else2 = search in
+    let corner : tie.After-off-corner = search in
+    let in-range : tie.Else1 = search in
+    let range : tie.After-out-of-range = search in
     let A = labelled-accepted _ _ (labelled .label-mesh .last .1 .1 .0) (labelled .label-mesh .result) (accepted .enum-told .given .1)
     (labelled .label-mesh .ensures) in
+    let ten = sym (range .out-of-range .ensures) ∙ in-range .if1 .left in
+    let eleven = sym (corner .off-corner .ensures _ _ _ (A .1 .labelled)) ∙ on-corner .if2 .left in
+    let twelve = sym (sum .off-sum .ensures _ _ (A .1 .labelled)) ∙ on-sum .if3 .left in
     let drawing : LabelledDrawing _ _ _ _ _ = record { peeled = A .1; corners = eleven; sums = twelve } in
     let nine = past .weights-past-limit .ensures .0 _ _ drawing in
     let long = length-backward (start .args .triangles .now) (labels (start .args .n) (start .args .triangles .now)) (start .args .coordinates .now) in
     backward-done _ _ _ _ _ (start .pre) (A .0 .2) ten eleven twelve (sym nine ∙ within .if4 .left) _
     (wrote .write-weights .ensures _ (past .weights-past-limit .ensures .1 (within .if4 .left) _ _ drawing) (omega (arith, long)))
+
+write-weights-requires : tie.Need-write-weights-requires
+write-weights-requires c κs = omega arith
 
 pub run-backward-spec : {M : Type 1} → statement M
 run-backward-spec =
@@ -102,7 +135,7 @@ run-backward-spec =
     (λ c κs. search needs)
     (λ c. search needs)
     returns-2
-    (λ c κs. search needs)
+    off-corner-requires
     (λ c. search needs)
     returns-3
     off-sum-requires
@@ -111,7 +144,7 @@ run-backward-spec =
     weights-past-limit-requires
     (λ c. search needs)
     returns-5
-    (λ c κs. search needs)
+    write-weights-requires
     (λ c. search needs)
     (λ c. search needs)
     returns-6)

@@ -25,7 +25,7 @@ write-coordinates-requires c κs =
     let start : tie.Start = search in
     let labelled : tie.After-label-mesh = search in
     let A = labelled-accepted _ _ (labelled .label-mesh .last .1 .1 .0) (labelled .label-mesh .result) (search) (labelled .label-mesh .ensures) in
-    ((_, A .1), omega arith, (cc), omega arith)
+    ((start .args .triangles .now, _, A .1), omega arith, (cc), omega arith)
 
 returns-3 : tie.Need-returns-3
 returns-3 c =
@@ -33,7 +33,7 @@ returns-3 c =
     let labelled : tie.After-label-mesh = search in
     let wrote : tie.After-write-coordinates = search in
     let A = labelled-accepted _ _ (labelled .label-mesh .last .1 .1 .0) (labelled .label-mesh .result) (search) (labelled .label-mesh .ensures) in
-    forward-done _ _ _ _ _ (start .pre) (A .0 .2) (cc) _ (wrote .write-coordinates .ensures _ (A .1))
+    forward-done _ _ _ _ _ (start .pre) (A .0 .2) (cc) _ (wrote .write-coordinates .ensures _ _ (A .1))
 
 pub run-forward-spec : {M : Type 1} → statement M
 run-forward-spec =

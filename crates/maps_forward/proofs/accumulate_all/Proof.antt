@@ -1,43 +1,43 @@
 -- `maps_forward::accumulate_all` meets its contract. The loop's invariant: the vertices passed have left. Assumes nothing.
-use borrow.Author.Needs.{needs}
 use mathlib.Core.Path.{_≡_, _∙_, ap}
 use Prim.Native.Nat.{ℕ, _≤_, _-_}
 use native.Mathlib.Omega.{arith}
 use lib.ListN.{length}
-use Rattle.scratch_tables.specs.Tables.{tablesOf}
+use Rattle.labels_tables.specs.Peeling.{peeling}
 use Rattle.maps_forward_model.specs.Model.{accumulateAll}
-use Rattle.maps_forward.specs.LoopLaws.{accumulateAll-none, accumulateAll-next, accumulateAll-room}
+use Rattle.maps_forward.specs.LoopLaws.{accumulateAll-none, accumulateAll-next, accumulate-asks}
+use borrow.Author.Needs.{needs}
 use Rattle.maps_forward.proofs.accumulate_all.Statement.{statement}
 use Rattle.maps_forward.proofs.accumulate_all.Tie as tie
 
 abbrev Inv-loop : tie.InvT-loop
-Inv-loop n triangles weights coordinates₀ scratch k₀ coordinates k = (coordinates ≡ accumulateAll triangles (tablesOf scratch) weights k coordinates₀)
+Inv-loop n weights coordinates₀ scratch k₀ coordinates k = (coordinates ≡ accumulateAll (length scratch) (peeling scratch) weights k coordinates₀)
     × (length coordinates ≡ length coordinates₀) × (k ≤ n - 2)
 
 abbrev μ-loop : tie.MeasureT-loop
-μ-loop n triangles weights coordinates₀ scratch k₀ coordinates k = n - k
+μ-loop n weights coordinates₀ scratch k₀ coordinates k = n - k
 
 loop-holds : tie.Need-loop-holds Inv-loop μ-loop
-loop-holds c = search (tablesOf, accumulateAll-none, needs)
+loop-holds c = search (peeling, accumulateAll-none, needs)
 
 accumulate-requires : tie.Need-accumulate-requires Inv-loop μ-loop
 accumulate-requires c κs =
     let start : tie.Start Inv-loop μ-loop = search in
     let at-loop : tie.At-loop Inv-loop μ-loop = search in
     let in-loop : tie.In-loop Inv-loop μ-loop = search in
-    let l = at-loop .loop in
-    accumulateAll-room _ _ (tablesOf _) _ (l .k) _ _ (l .coordinates) (start .pre .0) (start .pre .1) (in-loop .loop-test .taken) (l .inv .0)
-    (c .before .removed-vertex .ensures .0)
+    let read : tie.After-removed-vertex Inv-loop μ-loop = search in
+    let l = at-loop .loop in let P = start .pre in
+    accumulate-asks _ _ _ _ _ (l .k) _ (P .0) (P .1) (P .2) (in-loop .loop-test .taken) (l .inv .0) (l .inv .1) (read .removed-vertex .ensures .0)
 
 loop-again : tie.Need-loop-again Inv-loop μ-loop
-loop-again c = search (tablesOf, accumulateAll-next, needs)
+loop-again c = search (peeling, accumulateAll-next, needs)
 
 returns : tie.Need-returns Inv-loop μ-loop
 returns c =
     let start : tie.Start Inv-loop μ-loop = search in
-    let a = start .args in let l = c .before .loop in
+    let a = start .args in let s = a .scratch .now in let l = c .before .loop in
     let e : l .k ≡ a .n - 2 = omega (arith, c .loop-test .left, l .inv .2) in
-    l .inv .0 ∙ ap (λ (j : ℕ). accumulateAll (a .triangles .now) (tablesOf (a .scratch .now)) (a .weights .now) j (a .coordinates .now)) e
+    l .inv .0 ∙ ap (λ (j : ℕ). accumulateAll (length s) (peeling s) (a .weights .now) j (a .coordinates .now)) e
 
 pub accumulate-all-spec : {M : Type 1} → statement M
 accumulate-all-spec =

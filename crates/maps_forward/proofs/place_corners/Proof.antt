@@ -1,4 +1,4 @@
--- `maps_forward::place_corners` meets its contract, from those of `store` and `copy`. Assumes nothing.
+-- `maps_forward::place_corners` meets its contract, from those of `put` and `copy`. Assumes nothing.
 use Rattle.maps_forward.specs.LoopLaws.{withCorners-made}
 use borrow.Author.Needs.{needs}
 use Rattle.maps_forward.proofs.place_corners.Statement.{statement}
@@ -11,13 +11,10 @@ pub place-corners-spec : {M : Type 1} → statement M
 place-corners-spec =
     tie.close
     (tie.spec
+    (λ c. search needs)
+    (λ c. search needs)
     (λ c κs. search needs)
-    (λ c κs. search needs)
-    (λ c κs. search needs)
-    (λ c κs. search needs)
-    (λ c κs. search needs)
-    (λ c κs. search needs)
-    (λ c κs. search needs)
+    (λ c. search needs)
     (λ c κs. search needs)
     (λ c κs. search needs)
     (λ c. search needs)

@@ -1,34 +1,49 @@
--- `maps_forward::store_fan` meets its contract. The loop's invariant: what is left of the fan ends as the whole of it. Assumes nothing.
-use borrow.Author.Needs.{needs}
-use Prim.Native.Nat.{_≤_, _-_}
+-- `maps_forward::store_fan` meets its contract. The loop's invariant: what is left of the fan ends as the whole of it. It gets shorter with each dart.
+-- Assumes nothing.
+use mathlib.Core.Path.{_≡_}
+use native.Mathlib.Omega.{arith}
 use lib.ListN.{length}
-use Rattle.scratch_tables.specs.Tables.{tablesOf}
-use Rattle.maps_forward.specs.LoopLaws.{FanLoop, fan-loop-start, fan-loop-stop, fan-loop-next, fan-loop-end}
-use Rattle.maps_forward.specs.LoopLaws.{FanLoop, fan-loop-stop, fan-loop-next, fan-loop-end}
+use Rattle.labels_tables.specs.Peeling.{peeling}
+use Rattle.maps_forward_model.specs.Model.{stores, fanFrom}
+use Rattle.maps_forward.specs.LoopLaws.{FanLoop, fan-first, fan-start, fan-dart, fan-next, fan-less, fan-stop}
+use borrow.Author.Needs.{needs}
 use Rattle.maps_forward.proofs.store_fan.Statement.{statement}
 use Rattle.maps_forward.proofs.store_fan.Tie as tie
 
 abbrev Inv-loop : tie.InvT-loop
-Inv-loop triangles weights coordinates₀ scratch stop from g₀ k₀ coordinates g k =
-    FanLoop triangles (tablesOf scratch) weights stop from coordinates₀ coordinates g k × (k ≤ length triangles)
+Inv-loop weights coordinates₀ scratch stop from g₀ q₀ coordinates g q = let t = peeling scratch in
+    FanLoop weights scratch stop (stores (t .origin) weights (fanFrom t stop (length scratch) from) coordinates₀) coordinates g q
+    × (length coordinates ≡ length coordinates₀)
 
 abbrev μ-loop : tie.MeasureT-loop
-μ-loop triangles weights coordinates₀ scratch stop from g₀ k₀ coordinates g k = length triangles - k
+μ-loop weights coordinates₀ scratch stop from g₀ q₀ coordinates g q = length (fanFrom (peeling scratch) stop (length scratch) g)
+
+prev-dart-requires : tie.Need-prev-dart-requires Inv-loop μ-loop
+prev-dart-requires c κs = omega (arith, fan-first (c .pre) .below, c .pre .lent .readable .most)
 
 loop-holds : tie.Need-loop-holds Inv-loop μ-loop
-loop-holds c = search (tablesOf, fan-loop-start, needs)
+loop-holds c = search (peeling, fan-start, needs)
 
-returns : tie.Need-returns Inv-loop μ-loop
-returns c = search (tablesOf, fan-loop-stop)
+store-weight-requires : tie.Need-store-weight-requires Inv-loop μ-loop
+store-weight-requires c κs = let at-loop : tie.At-loop Inv-loop μ-loop = search in fan-dart _ _ _ _ _ _ _ (at-loop .loop .inv .0)
 
-opposite-requires : tie.Need-opposite-requires Inv-loop μ-loop
-opposite-requires c κs = tt
+turn-requires : tie.Need-turn-requires Inv-loop μ-loop
+turn-requires c κs =
+    let at-loop : tie.At-loop Inv-loop μ-loop = search in
+    let A = at-loop .loop .inv .0 .ahead in
+    omega (arith, fan-first A .below, A .lent .readable .room)
+
+loop-less : tie.Need-loop-less Inv-loop μ-loop
+loop-less c = search (peeling, fan-less)
 
 loop-again : tie.Need-loop-again Inv-loop μ-loop
-loop-again c = search (tablesOf, fan-loop-next, needs)
+loop-again c = search (peeling, fan-next, needs)
 
-returns-2 : tie.Need-returns-2 Inv-loop μ-loop
-returns-2 c = search (tablesOf, fan-loop-end)
+store-weight-requires-2 : tie.Need-store-weight-requires-2 Inv-loop μ-loop
+store-weight-requires-2 c κs = let at-loop : tie.At-loop Inv-loop μ-loop = search in fan-dart _ _ _ _ _ _ _ (at-loop .loop .inv .0)
+
+returns : tie.Need-returns Inv-loop μ-loop
+returns c = search (peeling, fan-stop)
 
 pub store-fan-spec : {M : Type 1} → statement M
 store-fan-spec =
@@ -36,14 +51,13 @@ store-fan-spec =
     (tie.spec
     Inv-loop
     μ-loop
+    prev-dart-requires
     loop-holds
+    store-weight-requires
+    turn-requires
     (λ c κs. search needs)
-    (λ c κs. search needs)
-    (λ c. search needs)
-    returns
-    opposite-requires
-    (λ c. search needs)
-    (λ c. search needs)
+    loop-less
     loop-again
+    store-weight-requires-2
     (λ c. search needs)
-    returns-2)
+    returns)

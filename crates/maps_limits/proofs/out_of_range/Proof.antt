@@ -1,6 +1,7 @@
 -- `maps_limits::out_of_range` meets its contract. The loop's invariant: the coordinates passed are within the limit. Assumes nothing.
 use Prim.Native.Nat.{_-_}
 use lib.ListN.{length}
+use Rattle.int64.specs.Whole.{size-is, values}
 use borrow.Author.Needs.{needs}
 use Rattle.maps_limits.specs.Limits.{Ranged, ranged-none, ranged-more, ranged-past, ranged-all}
 use Rattle.maps_limits.proofs.out_of_range.Statement.{statement}
@@ -16,10 +17,10 @@ loop-holds : tie.Need-loop-holds Inv-loop μ-loop
 loop-holds c = search ranged-none
 
 returns : tie.Need-returns Inv-loop μ-loop
-returns c = search ranged-past
+returns c = search (ranged-past, size-is, values)
 
 loop-again : tie.Need-loop-again Inv-loop μ-loop
-loop-again c = search ranged-more
+loop-again c = search (ranged-more, size-is, values)
 
 returns-2 : tie.Need-returns-2 Inv-loop μ-loop
 returns-2 c = search ranged-all
@@ -31,6 +32,7 @@ out-of-range-spec =
     Inv-loop
     μ-loop
     loop-holds
+    (λ c κs. search needs)
     (λ c κs. search needs)
     returns
     (λ c. search needs)

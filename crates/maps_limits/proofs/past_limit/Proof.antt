@@ -2,6 +2,7 @@
 -- within the limit. Assumes nothing.
 use Prim.Native.Nat.{_-_}
 use lib.ListN.{length}
+use Rattle.int64.specs.Whole.{size-is, values}
 use borrow.Author.Needs.{needs}
 use Rattle.maps_limits.specs.Limits.{Summed, summed-none, summed-more, summed-past, summed-all}
 use Rattle.maps_limits.proofs.past_limit.Statement.{statement}
@@ -17,10 +18,10 @@ loop-holds : tie.Need-loop-holds Inv-loop μ-loop
 loop-holds c = search summed-none
 
 returns : tie.Need-returns Inv-loop μ-loop
-returns c = search summed-past
+returns c = search (summed-past, size-is, values)
 
 loop-again : tie.Need-loop-again Inv-loop μ-loop
-loop-again c = search summed-more
+loop-again c = search (summed-more, size-is, values)
 
 returns-2 : tie.Need-returns-2 Inv-loop μ-loop
 returns-2 c = search summed-all
@@ -32,6 +33,7 @@ past-limit-spec =
     Inv-loop
     μ-loop
     loop-holds
+    (λ c κs. search needs)
     (λ c κs. search needs)
     (λ c. search needs)
     returns

@@ -1,37 +1,27 @@
 -- `mesh_sides::duplicate_side` meets its contract. The loop's invariant: the vertices from v on give what all of them give. Assumes nothing.
 use Prim.Native.Nat.{_-_}
 use native.Mathlib.Omega.{arith}
-use Rattle.scratch_tables.specs.Tables.{tablesOf}
-use Rattle.mesh_sides.specs.Room.{ready-at}
-use Rattle.mesh_sides.specs.LoopInvariants.{mark-heads, Scanning, scanning-start, scanning-found, scanning-next, scanning-none, marked-as}
+use Rattle.mesh_sides.specs.LoopInvariants.{Scanning, scanning-start, scanning-at, scanning-found, scanning-next, scanning-none}
 use Rattle.mesh_sides.proofs.duplicate_side.Statement.{statement}
 use Rattle.mesh_sides.proofs.duplicate_side.Tie as tie
 
 abbrev Inv-loop : tie.InvT-loop
-Inv-loop n triangles s₀ u v₀ s v = Scanning triangles u n s₀ s v
+Inv-loop n s₀ u v₀ s v = Scanning u n s₀ s v
 
 abbrev μ-loop : tie.MeasureT-loop
-μ-loop n triangles s₀ u v₀ s v = n - v
+μ-loop n s₀ u v₀ s v = n - v
 
 loop-holds : tie.Need-loop-holds Inv-loop μ-loop
 loop-holds c = search scanning-start
 
 mark-outgoing-requires : tie.Need-mark-outgoing-requires Inv-loop μ-loop
-mark-outgoing-requires c κs = let start : tie.Start Inv-loop μ-loop = search in
-    let at-loop : tie.At-loop Inv-loop μ-loop = search in
-    let R = start .pre in
-    let s = at-loop .loop .s in
-    let v = at-loop .loop .v in
-    let I = at-loop .loop .inv in (
-      ready-at s v R (search) (I .long),
-      rw (mark-heads (start .args .s .now) s (tablesOf s .mark) (I .same)) (R .heads v),
-    )
+mark-outgoing-requires c κs = search scanning-at
 
 same-length : tie.Need-same-length Inv-loop μ-loop
 same-length c = omega arith
 
 returns : tie.Need-returns Inv-loop μ-loop
-returns c = search (scanning-found, marked-as)
+returns c = search scanning-found
 
 add-v : tie.Need-add-v Inv-loop μ-loop
 add-v c = omega arith
@@ -40,7 +30,7 @@ loop-less : tie.Need-loop-less Inv-loop μ-loop
 loop-less c = omega arith
 
 loop-again : tie.Need-loop-again Inv-loop μ-loop
-loop-again c = search (scanning-next, marked-as)
+loop-again c = search scanning-next
 
 same-length-2 : tie.Need-same-length-2 Inv-loop μ-loop
 same-length-2 c = omega arith

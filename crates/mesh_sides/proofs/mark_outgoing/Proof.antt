@@ -1,43 +1,27 @@
 -- `mesh_sides::mark_outgoing` meets its contract. The loop's invariant: the walk from e on gives what the whole walk gives. Assumes nothing.
 use Prim.Native.Nat.{_-_}
 use native.Mathlib.Omega.{arith}
-use Rattle.mesh_sides.specs.Room.{prev-small}
-use Rattle.mesh_sides.specs.LoopInvariants.{Marking, marking-start, marking-next, marked-found, marked-none}
+use Rattle.mesh_sides.specs.LoopInvariants.{Marking, marking-start, marking-dart, marking-beside, marking-next, marked-found, marked-none}
 use Rattle.mesh_sides.proofs.mark_outgoing.Statement.{statement}
 use Rattle.mesh_sides.proofs.mark_outgoing.Tie as tie
 
 abbrev Inv-loop : tie.InvT-loop
-Inv-loop triangles s₀ v k h e₀ i₀ s e i = Marking triangles s₀ v k h s e i
+Inv-loop s₀ v k e₀ i₀ s e i = Marking s₀ v k e₀ s e i
 
 abbrev μ-loop : tie.MeasureT-loop
-μ-loop triangles s₀ v k h e₀ i₀ s e i = k - i
+μ-loop s₀ v k e₀ i₀ s e i = k - i
 
-get-count-requires : tie.Need-get-count-requires Inv-loop μ-loop
-get-count-requires c κs = tt
+dart-number-requires : tie.Need-dart-number-requires Inv-loop μ-loop
+dart-number-requires c κs = search
 
-get-head-requires : tie.Need-get-head-requires Inv-loop μ-loop
-get-head-requires c κs = tt
-
-prev-dart-requires : tie.Need-prev-dart-requires Inv-loop μ-loop
-prev-dart-requires c κs = c .get-head .ensures .1
+first-dart-requires : tie.Need-first-dart-requires Inv-loop μ-loop
+first-dart-requires c κs = search
 
 loop-holds : tie.Need-loop-holds Inv-loop μ-loop
-loop-holds c =
-    let start : tie.Start Inv-loop μ-loop = search in
-    let after-get-count : tie.After-get-count Inv-loop μ-loop = search in
-    marking-start (start .args .triangles .now)
-    (start .args .s .now) (start .args .v)
-    (after-get-count .get-count .result) (c .before .get-head .result) (c .prev-dart .result) (c .prev-dart .ensures)
-    (prev-small (c .before .get-head .result) (c .prev-dart .result) (c .prev-dart .ensures)
-    (omega (arith, c .before .get-head .ensures .0, start .pre .1)))
+loop-holds c = search marking-start
 
 mark-neighbour-requires : tie.Need-mark-neighbour-requires Inv-loop μ-loop
-mark-neighbour-requires c κs =
-    let start : tie.Start Inv-loop μ-loop = search in
-    let at-loop : tie.At-loop Inv-loop μ-loop = search in (
-      rw (at-loop .loop .inv .long) (start .pre .0),
-      at-loop .loop .inv .small,
-    )
+mark-neighbour-requires c κs = search marking-beside
 
 same-length : tie.Need-same-length Inv-loop μ-loop
 same-length c = omega arith
@@ -45,8 +29,8 @@ same-length c = omega arith
 returns : tie.Need-returns Inv-loop μ-loop
 returns c = search marked-found
 
-get-op-requires : tie.Need-get-op-requires Inv-loop μ-loop
-get-op-requires c κs = tt
+turn-requires : tie.Need-turn-requires Inv-loop μ-loop
+turn-requires c κs = search marking-dart
 
 add-i : tie.Need-add-i Inv-loop μ-loop
 add-i c = omega arith
@@ -69,14 +53,13 @@ mark-outgoing-spec =
     (tie.spec
     Inv-loop
     μ-loop
-    get-count-requires
-    get-head-requires
-    prev-dart-requires
+    dart-number-requires
+    first-dart-requires
     loop-holds
     mark-neighbour-requires
     same-length
     returns
-    get-op-requires
+    turn-requires
     add-i
     loop-less
     loop-again

@@ -1,45 +1,30 @@
 -- `mesh_sides::match_incoming` meets its contract. The loop's invariant: the walk from e on gives what the whole walk gives. Assumes nothing.
 use Prim.Native.Nat.{_-_}
 use native.Mathlib.Omega.{arith}
-use Rattle.mesh_sides.specs.Room.{prev-small}
-use Rattle.mesh_sides.specs.LoopInvariants.{Tying, tying-start, tying-next, tied-lacks, tied-none}
+use Rattle.mesh_sides.specs.LoopInvariants.{Tying, tying-start, tying-dart, tying-beside, tying-next, tied-lacks, tied-none}
 use Rattle.mesh_sides.proofs.match_incoming.Statement.{statement}
 use Rattle.mesh_sides.proofs.match_incoming.Tie as tie
 
 abbrev Inv-loop : tie.InvT-loop
-Inv-loop triangles s₀ v k h e₀ i₀ s e i = Tying triangles s₀ v k h s e i
+Inv-loop s₀ v k e₀ i₀ s e i = Tying s₀ v k e₀ s e i
 
 abbrev μ-loop : tie.MeasureT-loop
-μ-loop triangles s₀ v k h e₀ i₀ s e i = k - i
+μ-loop s₀ v k e₀ i₀ s e i = k - i
 
-get-count-requires : tie.Need-get-count-requires Inv-loop μ-loop
-get-count-requires c κs = tt
+dart-number-requires : tie.Need-dart-number-requires Inv-loop μ-loop
+dart-number-requires c κs = search
 
-get-head-requires : tie.Need-get-head-requires Inv-loop μ-loop
-get-head-requires c κs = tt
-
-prev-dart-requires : tie.Need-prev-dart-requires Inv-loop μ-loop
-prev-dart-requires c κs = c .get-head .ensures .1
+first-dart-requires : tie.Need-first-dart-requires Inv-loop μ-loop
+first-dart-requires c κs = search
 
 loop-holds : tie.Need-loop-holds Inv-loop μ-loop
-loop-holds c =
-    let start : tie.Start Inv-loop μ-loop = search in
-    let after-get-count : tie.After-get-count Inv-loop μ-loop = search in
-    tying-start (start .args .triangles .now)
-    (start .args .s .now) (start .args .v)
-    (after-get-count .get-count .result) (c .before .get-head .result) (c .prev-dart .result) (c .prev-dart .ensures)
-    (prev-small (c .before .get-head .result) (c .prev-dart .result) (c .prev-dart .ensures)
-    (omega (arith, c .before .get-head .ensures .0, start .pre .1)))
+loop-holds c = search tying-start
 
-get-op-requires : tie.Need-get-op-requires Inv-loop μ-loop
-get-op-requires c κs = tt
+turn-requires : tie.Need-turn-requires Inv-loop μ-loop
+turn-requires c κs = search tying-dart
 
 match-dart-requires : tie.Need-match-dart-requires Inv-loop μ-loop
-match-dart-requires c κs =
-    let start : tie.Start Inv-loop μ-loop = search in
-    let at-loop : tie.At-loop Inv-loop μ-loop = search in
-    rw (at-loop .loop .inv .long)
-    (start .pre .0)
+match-dart-requires c κs = search tying-beside
 
 add-i : tie.Need-add-i Inv-loop μ-loop
 add-i c = omega arith
@@ -68,11 +53,10 @@ match-incoming-spec =
     (tie.spec
     Inv-loop
     μ-loop
-    get-count-requires
-    get-head-requires
-    prev-dart-requires
+    dart-number-requires
+    first-dart-requires
     loop-holds
-    get-op-requires
+    turn-requires
     match-dart-requires
     add-i
     loop-less

@@ -1,32 +1,22 @@
 -- `mesh_sides::match_sides` meets its contract. The loop's invariant: the vertices from v on give what all of them give. Assumes nothing.
 use Prim.Native.Nat.{_-_}
 use native.Mathlib.Omega.{arith}
-use mathlib.Core.Path.{_∙_}
-use Rattle.scratch_tables.specs.Tables.{tablesOf}
-use Rattle.mesh_sides.specs.Room.{ready-at, ready-kept}
-use Rattle.mesh_sides.specs.LoopInvariants.{mark-heads, op-heads, both-heads, Matching, matching-start, matching-twice, matching-next, matching-later}
-use Rattle.mesh_sides.specs.LoopInvariants.{matching-lacks, matching-none}
+use Rattle.mesh_sides.specs.LoopInvariants.{Matching, matching-start, matching-at, matching-twice, marked-at, tied-ready, tied-round, matching-next}
+use Rattle.mesh_sides.specs.LoopInvariants.{matching-later, matching-lacks, matching-none}
 use Rattle.mesh_sides.proofs.match_sides.Statement.{statement}
 use Rattle.mesh_sides.proofs.match_sides.Tie as tie
 
 abbrev Inv-loop : tie.InvT-loop
-Inv-loop n triangles s₀ v₀ s v = Matching triangles n s₀ s v
+Inv-loop n s₀ v₀ row₀ s v row = Matching n s₀ s v row
 
 abbrev μ-loop : tie.MeasureT-loop
-μ-loop n triangles s₀ v₀ s v = n - v
+μ-loop n s₀ v₀ row₀ s v row = n - v
 
 loop-holds : tie.Need-loop-holds Inv-loop μ-loop
 loop-holds c = search matching-start
 
 mark-outgoing-requires : tie.Need-mark-outgoing-requires Inv-loop μ-loop
-mark-outgoing-requires c κs = let start : tie.Start Inv-loop μ-loop = search in
-    let at-loop : tie.At-loop Inv-loop μ-loop = search in (
-      ready-at (at-loop .loop .s) (at-loop .loop .v) (start .pre) (search)
-          (at-loop .loop .inv .long),
-      rw (both-heads (start .args .s .now) (at-loop .loop .s) (tablesOf (at-loop .loop .s) .op)
-          (tablesOf (at-loop .loop .s) .mark) (at-loop .loop .inv .same))
-          (start .pre .heads (at-loop .loop .v)),
-    )
+mark-outgoing-requires c κs = search matching-at
 
 same-length : tie.Need-same-length Inv-loop μ-loop
 same-length c = omega arith
@@ -39,19 +29,9 @@ match-incoming-requires c κs =
     let start : tie.Start Inv-loop μ-loop = search in
     let at-loop : tie.At-loop Inv-loop μ-loop = search in
     let in-loop : tie.In-loop Inv-loop μ-loop = search in
-    let after-mark-outgoing : tie.After-mark-outgoing Inv-loop μ-loop = search in (
-      ready-at (after-mark-outgoing .mark-outgoing .last .1 .0) (at-loop .loop .v)
-          (start .pre) (in-loop .loop-test .taken)
-          (after-mark-outgoing .mark-outgoing .kept .1 .0 ∙ at-loop .loop .inv .long),
-      rw (
-        mark-heads (at-loop .loop .s) (after-mark-outgoing .mark-outgoing .last .1 .0) _
-            (after-mark-outgoing .mark-outgoing .ensures .same),
-        both-heads (start .args .s .now)
-            (at-loop .loop .s) (tablesOf (at-loop .loop .s) .op)
-            (tablesOf (at-loop .loop .s) .mark) (at-loop .loop .inv .same),
-      )
-          (start .pre .heads (at-loop .loop .v)),
-    )
+    let marking : tie.After-mark-outgoing Inv-loop μ-loop = search in
+    marked-at _ _ _ _ _ (in-loop .loop-test .taken) (at-loop .loop .inv) _ _ (marking .mark-outgoing .ensures) (start .pre)
+    (marking .mark-outgoing .kept .0)
 
 add-duplicate-side : tie.Need-add-duplicate-side Inv-loop μ-loop
 add-duplicate-side c = omega arith
@@ -60,22 +40,12 @@ duplicate-side-requires : tie.Need-duplicate-side-requires Inv-loop μ-loop
 duplicate-side-requires c κs =
     let start : tie.Start Inv-loop μ-loop = search in
     let at-loop : tie.At-loop Inv-loop μ-loop = search in
-    let after-mark-outgoing : tie.After-mark-outgoing Inv-loop μ-loop = search in
-    let after-match-incoming : tie.After-match-incoming Inv-loop μ-loop = search in
-    ready-kept (after-match-incoming .match-incoming .last .1 .0)
-    (start .pre)
-    (after-match-incoming .match-incoming .kept .1 .0 ∙ after-mark-outgoing .mark-outgoing .kept .1 .0
-    ∙ at-loop .loop .inv .long)
-    (op-heads (after-mark-outgoing .mark-outgoing .last .1 .0) (after-match-incoming .match-incoming .last .1 .0) _
-    (after-match-incoming .match-incoming .ensures .same)
-    ∙ mark-heads (at-loop .loop .s)
-    (after-mark-outgoing .mark-outgoing .last .1 .0) _
-    (after-mark-outgoing .mark-outgoing .ensures .same)
-    ∙ both-heads (start .args .s .now)
-    (at-loop .loop .s)
-    (tablesOf (at-loop .loop .s) .op)
-    (tablesOf (at-loop .loop .s) .mark)
-    (at-loop .loop .inv .same))
+    let in-loop : tie.In-loop Inv-loop μ-loop = search in
+    let marking : tie.After-mark-outgoing Inv-loop μ-loop = search in
+    let else1 : tie.Else1 Inv-loop μ-loop = search in
+    let tying : tie.After-match-incoming Inv-loop μ-loop = search in
+    tied-ready _ _ _ _ _ (in-loop .loop-test .taken) (at-loop .loop .inv) _ _ (marking .mark-outgoing .ensures) (else1 .if1 .left)
+    (marking .mark-outgoing .kept .0) _ _ (tying .match-incoming .ensures) (start .pre) (tying .match-incoming .kept .0)
 
 same-length-2 : tie.Need-same-length-2 Inv-loop μ-loop
 same-length-2 c = omega arith
@@ -89,6 +59,17 @@ same-length-3 c = omega arith
 returns-3 : tie.Need-returns-3 Inv-loop μ-loop
 returns-3 c = search matching-lacks
 
+ring-row-requires : tie.Need-ring-row-requires Inv-loop μ-loop
+ring-row-requires c κs =
+    let start : tie.Start Inv-loop μ-loop = search in
+    let at-loop : tie.At-loop Inv-loop μ-loop = search in
+    let in-loop : tie.In-loop Inv-loop μ-loop = search in
+    let marking : tie.After-mark-outgoing Inv-loop μ-loop = search in
+    let else1 : tie.Else1 Inv-loop μ-loop = search in
+    let tying : tie.After-match-incoming Inv-loop μ-loop = search in
+    tied-round _ _ _ _ _ (in-loop .loop-test .taken) (at-loop .loop .inv) _ _ (marking .mark-outgoing .ensures) (else1 .if1 .left)
+    (marking .mark-outgoing .kept .0) _ _ (tying .match-incoming .ensures) (start .pre) (tying .match-incoming .kept .0)
+
 add-v : tie.Need-add-v Inv-loop μ-loop
 add-v c = omega arith
 
@@ -97,24 +78,14 @@ loop-less c = omega arith
 
 loop-again : tie.Need-loop-again Inv-loop μ-loop
 loop-again c =
-    let start : tie.Start Inv-loop μ-loop = search in
     let at-loop : tie.At-loop Inv-loop μ-loop = search in
     let in-loop : tie.In-loop Inv-loop μ-loop = search in
-    let after-mark-outgoing : tie.After-mark-outgoing Inv-loop μ-loop = search in
+    let marking : tie.After-mark-outgoing Inv-loop μ-loop = search in
     let else1 : tie.Else1 Inv-loop μ-loop = search in
-    let after-match-incoming : tie.After-match-incoming Inv-loop μ-loop = search in
-    matching-next (start .args .triangles .now)
-    (start .args .n)
-    (start .args .s .now)
-    (at-loop .loop .s)
-    (after-mark-outgoing .mark-outgoing .last .1 .0)
-    (at-loop .loop .v)
-    (in-loop .loop-test .taken)
-    (at-loop .loop .inv)
-    (after-mark-outgoing .mark-outgoing .result) (else1 .if1 .left)
-    (after-mark-outgoing .mark-outgoing .ensures) (after-match-incoming .match-incoming .last .1 .0)
-    (after-match-incoming .match-incoming .result) (after-match-incoming .match-incoming .ensures) (c .if2 .left)
-    (after-match-incoming .match-incoming .kept .1 .0 ∙ after-mark-outgoing .mark-outgoing .kept .1 .0)
+    let tying : tie.After-match-incoming Inv-loop μ-loop = search in
+    let else2 : tie.Else2 Inv-loop μ-loop = search in
+    matching-next _ _ _ _ _ (in-loop .loop-test .taken) (at-loop .loop .inv) _ _ (marking .mark-outgoing .ensures) (else1 .if1 .left)
+    (marking .mark-outgoing .kept .0) _ _ (tying .match-incoming .ensures) (else2 .if2 .left) (tying .match-incoming .kept .0) _ (c .ring-row .ensures)
 
 same-length-4 : tie.Need-same-length-4 Inv-loop μ-loop
 same-length-4 c = omega arith
@@ -139,6 +110,7 @@ match-sides-spec =
     returns-2
     same-length-3
     returns-3
+    ring-row-requires
     add-v
     loop-less
     loop-again

@@ -29,7 +29,7 @@ repair-labelled-requires c κs =
     let light : tie.Else1 = search in
     let A = labelled-accepted _ _ (labelled .label-mesh .last .1 .1 .0) (labelled .label-mesh .result) (accepted .enum-told .given .1)
     (labelled .label-mesh .ensures) in
-    startable _ _ _ _ (start .args .scratch .now) _ (start .pre) (labelled .label-mesh .kept .1 .1 .0) (sym (past .past-limit .ensures) ∙ light .if1 .left)
+    startable _ _ _ _ (start .args .scratch .now) _ (start .pre) (sym (past .past-limit .ensures) ∙ light .if1 .left)
     (A .1)
 
 returns-3 : tie.Need-returns-3
@@ -43,7 +43,7 @@ returns-3 c =
     let A = labelled-accepted _ _ (labelled .label-mesh .last .1 .1 .0) (labelled .label-mesh .result) (accepted .enum-told .given .1)
     (labelled .label-mesh .ensures) in
     rw (c .ended .ensures)
-    (given-end _ _ _ _ _ (start .pre) (A .0) (sym (past .past-limit .ensures) ∙ light .if1 .left) _ _ _ (repaired .repair-labelled .ensures _ (A .1)))
+    (given-end _ _ _ _ _ (start .pre) (A .0) (sym (past .past-limit .ensures) ∙ light .if1 .left) _ _ _ (repaired .repair-labelled .ensures _ _ (A .1)))
 
 pub run-repair-spec : {M : Type 1} → statement M
 run-repair-spec =

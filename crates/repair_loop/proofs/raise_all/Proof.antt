@@ -3,20 +3,20 @@
 use borrow.Author.Needs.{needs}
 use native.Mathlib.Omega.{arith}
 use Prim.Native.Nat.{_-_, _*_}
-use Rattle.repair_loop.specs.LoopInvariants.{start-within, start-some, Loops, loops-begin, now, can-raise, fueled, next-within, loops-again}
+use Rattle.repair_loop.specs.LoopInvariants.{start-search, start-some, Loops, loops-begin, now, can-raise, fueled, next-search, loops-again}
 use Rattle.repair_loop.specs.LoopInvariants.{loop-stops, loop-ends}
 use Rattle.repair_loop.proofs.raise_all.Statement.{statement}
 use Rattle.repair_loop.proofs.raise_all.Tie as tie
 
 abbrev Inv-loop : tie.InvT-loop
-Inv-loop n triangles weights₀ coordinates₀ scratch sum end total₀ count₀ full₀ t₀ weights coordinates total count full t =
-    Loops n triangles scratch weights₀ coordinates₀ weights coordinates total count full t
+Inv-loop n weights₀ coordinates₀ scratch sum end total₀ count₀ full₀ t₀ weights coordinates total count full t =
+    Loops n scratch weights₀ coordinates₀ weights coordinates total count full t
 
 abbrev μ-loop : tie.MeasureT-loop
-μ-loop n triangles weights₀ coordinates₀ scratch sum end total₀ count₀ full₀ t₀ weights coordinates total count full t = 2 * n - 4 - count
+μ-loop n weights₀ coordinates₀ scratch sum end total₀ count₀ full₀ t₀ weights coordinates total count full t = 2 * n - 4 - count
 
 first-bad-requires : tie.Need-first-bad-requires Inv-loop μ-loop
-first-bad-requires c κs = search (start-within, start-some, needs)
+first-bad-requires c κs = search (start-search, start-some, needs)
 
 loop-holds : tie.Need-loop-holds Inv-loop μ-loop
 loop-holds c = search loops-begin
@@ -31,7 +31,7 @@ add-count : tie.Need-add-count Inv-loop μ-loop
 add-count c =
     let start : tie.Start Inv-loop μ-loop = search in
     let at-loop : tie.At-loop Inv-loop μ-loop = search in
-    omega (arith, fueled _ _ _ _ _ _ (start .pre) _ _ _ _ _ _ (at-loop .loop .inv), start-some _ _ _ _ _ _ (start .pre))
+    omega (arith, fueled _ _ _ _ _ (start .pre) _ _ _ _ _ _ (at-loop .loop .inv), start-some _ _ _ _ _ (start .pre))
 
 next-bad-requires : tie.Need-next-bad-requires Inv-loop μ-loop
 next-bad-requires c κs =
@@ -39,19 +39,19 @@ next-bad-requires c κs =
     let at-loop : tie.At-loop Inv-loop μ-loop = search in
     let in-loop : tie.In-loop Inv-loop μ-loop = search in
     let tried : tie.After-try-raise Inv-loop μ-loop = search in
-    let S = now _ _ _ _ _ _ (start .pre) _ _ _ _ _ _ (at-loop .loop .inv) in
-    let few = start-some _ _ _ _ _ _ (start .pre) in (
+    let S = now _ _ _ _ _ (start .pre) _ _ _ _ _ _ (at-loop .loop .inv) in (
+      S .positive,
       S .lower,
-      omega (arith, in-loop .loop-test .taken),
-      omega (arith, few),
-      next-within _ _ _ _ _ _ (start .pre) _ _ _ _ _ _ (at-loop .loop .inv) (in-loop .loop-test .taken) _ _ _ (tried .try-raise .ensures) (omega arith),
+      in-loop .loop-test .taken,
+      next-search _ _ _ _ _ (start .pre) _ _ _ _ _ _ (at-loop .loop .inv) (in-loop .loop-test .taken) _ _ _ (tried .try-raise .ensures) (omega arith)
+          (search),
     )
 
 loop-less : tie.Need-loop-less Inv-loop μ-loop
 loop-less c =
     let start : tie.Start Inv-loop μ-loop = search in
     let at-loop : tie.At-loop Inv-loop μ-loop = search in
-    omega (arith, fueled _ _ _ _ _ _ (start .pre) _ _ _ _ _ _ (at-loop .loop .inv))
+    omega (arith, fueled _ _ _ _ _ (start .pre) _ _ _ _ _ _ (at-loop .loop .inv))
 
 loop-again : tie.Need-loop-again Inv-loop μ-loop
 loop-again c = search loops-again

@@ -7,8 +7,8 @@ use borrow.Author.Needs.{needs}
 use Rattle.repair_loop.proofs.sum_after.Statement.{statement}
 use Rattle.repair_loop.proofs.sum_after.Tie as tie
 
-sub-at : tie.Need-sub-at
-sub-at c = c .pre .positive
+sub-get : tie.Need-sub-get
+sub-get c = c .pre .positive
 
 plus-requires : tie.Need-plus-requires
 plus-requires c κs =
@@ -25,7 +25,7 @@ pub sum-after-spec : {M : Type 1} → statement M
 sum-after-spec =
     tie.close
     (tie.spec
-    sub-at
+    sub-get
     (λ c κs. search needs)
     plus-requires
     (λ c κs. search needs)

@@ -3,6 +3,7 @@
 use borrow.Author.Needs.{needs}
 use Prim.Native.Nat.{_-_}
 use lib.ListN.{length}
+use Rattle.int64.specs.Whole.{size-is, values}
 use Rattle.maps_limits.specs.Limits.{Summed, summed-none}
 use Rattle.repair_loop.specs.Start.{total-more, total-all}
 use Rattle.repair_loop.proofs.sum_of_absolutes.Statement.{statement}
@@ -17,11 +18,8 @@ abbrev μ-loop : tie.MeasureT-loop
 loop-holds : tie.Need-loop-holds Inv-loop μ-loop
 loop-holds c = summed-none (c .args .weights .now)
 
-size-at-requires : tie.Need-size-at-requires Inv-loop μ-loop
-size-at-requires c κs = tt
-
 loop-again : tie.Need-loop-again Inv-loop μ-loop
-loop-again c = search total-more
+loop-again c = search (total-more, size-is, values)
 
 returns : tie.Need-returns Inv-loop μ-loop
 returns c = search total-all
@@ -33,7 +31,8 @@ sum-of-absolutes-spec =
     Inv-loop
     μ-loop
     loop-holds
-    size-at-requires
+    (λ c κs. search needs)
+    (λ c κs. search needs)
     (λ c. search needs)
     (λ c. search needs)
     (λ c. search needs)

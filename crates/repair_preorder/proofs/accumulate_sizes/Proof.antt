@@ -24,7 +24,11 @@ add-size-requires c κs =
     let at-loop : tie.At-loop Inv-loop μ-loop = search in
     let a = start .args in let l = at-loop .loop in
     let P = up-pass-pre (addSize (a .colour)) (a .scratch .now) (l .scratch) (l .k) (l .inv .1) (a .n) (odd-add (a .colour)) (start .pre) in
-    (omega (arith, P .few, c .before .loop-test .taken), omega (arith, parent-low (a .colour) (l .k) P (c .before .loop-test .taken), P .room))
+    let h = c .before .loop-test .taken in (
+      omega (arith, P .room, h),
+      omega (arith, P .removed (l .k) h, P .room),
+      omega (arith, parent-low (a .colour) (l .k) P h, P .room),
+    )
 
 loop-again : tie.Need-loop-again Inv-loop μ-loop
 loop-again c = search (addSize, up-next, needs)

@@ -1,15 +1,15 @@
 -- `repair_preorder::allocate_range` meets its contract, from those of its calls. Assumes nothing.
 use native.Mathlib.Omega.{arith}
 use Rattle.scratch_tables.specs.Tables.{tablesOf}
-use Rattle.repair_model.specs.PackedWords.{field0}
+use Rattle.scratch_tables.specs.Fields.{field0}
 use Rattle.repair_preorder.specs.Model.{parent}
 use Rattle.repair_preorder.specs.LoopInvariants.{field-room, allocateRange-is}
 use borrow.Author.Needs.{needs}
 use Rattle.repair_preorder.proofs.allocate_range.Statement.{statement}
 use Rattle.repair_preorder.proofs.allocate_range.Tie as tie
 
-set-range-end-requires : tie.Need-set-range-end-requires
-set-range-end-requires c κs = (search (field-room field0), search)
+range-end-requires : tie.Need-range-end-requires
+range-end-requires c κs = let start : tie.Start = search in search (field-room (parent (start .args .colour)))
 
 set-range-end-requires-2 : tie.Need-set-range-end-requires-2
 set-range-end-requires-2 c κs =
@@ -29,10 +29,10 @@ allocate-range-spec =
     (λ c κs. search needs)
     (λ c κs. search needs)
     (λ c κs. search needs)
+    range-end-requires
+    (λ c κs. search (field-room field0))
     (λ c κs. search needs)
-    (λ c κs. search needs)
-    (λ c κs. search needs)
-    set-range-end-requires
+    (λ c κs. (search (field-room field0), search))
     set-range-end-requires-2
     (λ c. search needs)
     returns)

@@ -25,7 +25,7 @@ allocate-range-requires c κs =
     let at-loop : tie.At-loop Inv-loop μ-loop = search in
     let a = start .args in let l = at-loop .loop in
     let P = down-pass-pre (allocateRange (a .colour)) (a .n - 2) (a .scratch .now) (l .scratch) (l .k) (l .inv) (a .n) (start .pre) in (
-      omega (arith, P .few, l .inv .low),
+      omega (arith, P .room, l .inv .low, c .before .loop-test .taken),
       omega (arith, P .removed (l .k - 1) (omega (arith, l .inv .low, c .before .loop-test .taken)), P .room),
       omega (arith, parent-low (a .colour) (l .k - 1) P (omega (arith, l .inv .low, c .before .loop-test .taken)), P .room),
     )

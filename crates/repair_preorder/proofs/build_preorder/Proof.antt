@@ -1,7 +1,8 @@
 -- `repair_preorder::build_preorder` meets its contract, from those of the passes. Assumes nothing.
 use borrow.Author.Needs.{needs}
 use Rattle.scratch_tables.specs.Tables.{tablesOf}
-use Rattle.repair_preorder.specs.LoopInvariants.{preorderBuilt-is, sizes-pass, positions-pass, ranges-pass}
+use Rattle.repair_preorder.specs.LoopInvariants.{preorderBuilt-is, sizes-pass, positions-pass, ranges-pass, sized-walks}
+use Rattle.repair_preorder.specs.LoopInvariants.{placed-walks}
 use Rattle.repair_preorder.proofs.build_preorder.Statement.{statement}
 use Rattle.repair_preorder.proofs.build_preorder.Tie as tie
 
@@ -14,7 +15,11 @@ store-ranges-requires c κs =
     let sizes : tie.After-compute-sizes = search in
     let sized = sizes-pass _ _ _ (sizes .compute-sizes .ensures) (sizes .compute-sizes .kept .1 .0) (start .pre .0) in
     let positions : tie.After-compute-positions = search in
-    (positions-pass _ _ _ _ (positions .compute-positions .ensures) (positions .compute-positions .kept .1 .0) sized, start .pre .1)
+    let walks = sized-walks _ _ _ _ (sizes .compute-sizes .ensures) (start .pre .1) in (
+      positions-pass _ _ _ _ (positions .compute-positions .ensures) (positions .compute-positions .kept .1 .0) sized,
+      placed-walks _ _ _ _ _ (positions .compute-positions .ensures) walks,
+      start .pre .2,
+    )
 
 store-vertices-requires : tie.Need-store-vertices-requires
 store-vertices-requires c κs =

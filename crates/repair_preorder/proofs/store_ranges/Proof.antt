@@ -4,7 +4,7 @@ use native.Mathlib.Omega.{arith}
 use mathlib.Core.Path.{_≡_}
 use Prim.Native.Nat.{_-_, _*_, _≤_}
 use Rattle.repair_preorder.specs.Model.{upward, storeRange}
-use Rattle.repair_preorder.specs.LoopInvariants.{Up, up-next}
+use Rattle.repair_preorder.specs.LoopInvariants.{Up, up-next, range-pre}
 use Rattle.repair_preorder.proofs.store_ranges.Statement.{statement}
 use Rattle.repair_preorder.proofs.store_ranges.Tie as tie
 
@@ -17,6 +17,19 @@ abbrev μ-loop : tie.MeasureT-loop
 loop-holds : tie.Need-loop-holds Inv-loop μ-loop
 unfolding upward storeRange
 loop-holds c = search needs
+
+store-range-requires : tie.Need-store-range-requires Inv-loop μ-loop
+store-range-requires c κs =
+    let start : tie.Start Inv-loop μ-loop = search in
+    let at-loop : tie.At-loop Inv-loop μ-loop = search in
+    let P = start .pre .0 in
+    let i = at-loop .loop .inv in
+    let h = c .before .loop-test .taken in (
+      i .0,
+      omega (arith, P .room, i .2 .long, h),
+      start .pre .2,
+      range-pre _ _ _ _ _ (i .2) (start .pre .1) (P .room) (i .0) h,
+    )
 
 loop-again : tie.Need-loop-again Inv-loop μ-loop
 loop-again c = search (storeRange, up-next, needs)
@@ -36,7 +49,7 @@ store-ranges-spec =
     loop-holds
     (λ c. search needs)
     (λ c. search needs)
-    (λ c κs. search needs)
+    store-range-requires
     (λ c. search needs)
     (λ c. search needs)
     loop-again

@@ -1,6 +1,7 @@
 -- `repair_preorder::store_vertex` meets its contract, from those of its calls. Assumes nothing.
 use Rattle.scratch_tables.specs.Tables.{tablesOf}
-use Rattle.repair_preorder.specs.LoopInvariants.{storeVertex-is}
+use Rattle.scratch_tables.specs.Fields.{field0}
+use Rattle.repair_preorder.specs.LoopInvariants.{field-room, storeVertex-is}
 use borrow.Author.Needs.{needs}
 use Rattle.repair_preorder.proofs.store_vertex.Statement.{statement}
 use Rattle.repair_preorder.proofs.store_vertex.Tie as tie
@@ -14,7 +15,7 @@ store-vertex-spec =
     (tie.spec
     (λ c κs. search needs)
     (λ c κs. search needs)
-    (λ c κs. search needs)
+    (λ c κs. search (field-room field0))
     (λ c κs. search needs)
     (λ c κs. search needs)
     (λ c κs. search needs)

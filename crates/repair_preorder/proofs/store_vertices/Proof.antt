@@ -4,7 +4,7 @@ use native.Mathlib.Omega.{arith}
 use mathlib.Core.Path.{_≡_, refl}
 use Prim.Native.Nat.{_-_, _≤_}
 use Rattle.repair_preorder.specs.Model.{upward, storeVertex}
-use Rattle.repair_preorder.specs.LoopInvariants.{Up, up-next}
+use Rattle.repair_preorder.specs.LoopInvariants.{Up, up-next, up-pass-pre, odd-store}
 use Rattle.repair_preorder.proofs.store_vertices.Statement.{statement}
 use Rattle.repair_preorder.proofs.store_vertices.Tie as tie
 
@@ -17,6 +17,19 @@ abbrev μ-loop : tie.MeasureT-loop
 loop-holds : tie.Need-loop-holds Inv-loop μ-loop
 unfolding upward
 loop-holds c = (omega arith, record { long = refl; is = refl })
+
+store-vertex-requires : tie.Need-store-vertex-requires Inv-loop μ-loop
+store-vertex-requires c κs =
+    let start : tie.Start Inv-loop μ-loop = search in
+    let at-loop : tie.At-loop Inv-loop μ-loop = search in
+    let a = start .args in let l = at-loop .loop in
+    let P = up-pass-pre (storeVertex (a .n) (a .colour)) (a .scratch .now) (l .scratch) (l .k) (l .inv .1) (a .n) (odd-store (a .n) (a .colour)) (start .pre) in
+    let h = c .before .loop-test .taken in (
+      omega (arith, P .room, h),
+      omega (arith, P .removed (l .k) h, P .room),
+      omega (arith, P .some),
+      P .room,
+    )
 
 loop-again : tie.Need-loop-again Inv-loop μ-loop
 loop-again c = search (storeVertex, up-next, needs)
@@ -35,7 +48,7 @@ store-vertices-spec =
     μ-loop
     loop-holds
     (λ c. search needs)
-    (λ c κs. search needs)
+    store-vertex-requires
     (λ c. search needs)
     (λ c. search needs)
     loop-again

@@ -1,7 +1,7 @@
 -- `repair_preorder::with_range` meets its contract: the word with the range in it, or as it is. Assumes nothing.
 use mathlib.Core.Path.{_∙_}
 use Rattle.scratch_tables.specs.Tables.{tablesOf}
-use Rattle.repair_preorder.specs.LoopInvariants.{withRange-is, withRange-not}
+use Rattle.repair_preorder.specs.LoopInvariants.{tail-room, withRange-is, withRange-not}
 use borrow.Author.Needs.{needs}
 use Rattle.repair_preorder.proofs.with_range.Statement.{statement}
 use Rattle.repair_preorder.proofs.with_range.Tie as tie
@@ -19,10 +19,10 @@ with-range-spec =
     (λ c κs. search needs)
     (λ c. search needs)
     (λ c κs. search needs)
+    (λ c κs. search tail-room)
     (λ c κs. search needs)
     (λ c κs. search needs)
-    (λ c κs. search needs)
-    (λ c κs. search needs)
+    (λ c κs. search tail-room)
     (λ c κs. search needs)
     (λ c κs. search needs)
     (λ c κs. search needs)

@@ -1,5 +1,6 @@
 -- `repair_search::first_bad` meets its contract. The loop's invariant: no triangle passed is bad. Assumes nothing.
 use borrow.Author.Needs.{needs}
+use native.Mathlib.Omega.{arith}
 use mathlib.Core.Path.{_∙_, sym}
 use Prim.Native.Nat.{_-_}
 use Rattle.scratch_tables.specs.Tables.{tablesOf}
@@ -17,6 +18,12 @@ abbrev μ-loop : tie.MeasureT-loop
 loop-holds : tie.Need-loop-holds Inv-loop μ-loop
 loop-holds c = search (tablesOf, badAt, sought-none)
 
+is-bad-requires : tie.Need-is-bad-requires Inv-loop μ-loop
+is-bad-requires c κs =
+    let start : tie.Start Inv-loop μ-loop = search in
+    let at-loop : tie.At-loop Inv-loop μ-loop = search in
+    start .pre .2 .corners (at-loop .loop .i) (omega (arith, start .pre .0, at-loop .loop .inv .least)) (c .loop-test .taken)
+
 returns : tie.Need-returns Inv-loop μ-loop
 returns c = found-here (badAt (tablesOf _) _) _ _ _ (search) (search) (sym (search) ∙ c .if1 .taken)
 
@@ -33,7 +40,7 @@ first-bad-spec =
     Inv-loop
     μ-loop
     loop-holds
-    (λ c κs. search needs)
+    is-bad-requires
     returns
     (λ c. search needs)
     (λ c. search needs)

@@ -1,6 +1,6 @@
 -- `repair_search::is_bad` meets its contract, from those of its calls. Assumes nothing.
 use Rattle.scratch_tables.specs.Tables.{tablesOf}
-use Rattle.repair_search.specs.SearchLoops.{bad-by}
+use Rattle.repair_search.specs.SearchLoops.{first-there, second-there, third-there, bad-by}
 use borrow.Author.Needs.{needs}
 use Rattle.repair_search.proofs.is_bad.Statement.{statement}
 use Rattle.repair_search.proofs.is_bad.Tie as tie
@@ -16,5 +16,5 @@ is-bad-spec =
     (λ c κs. search needs)
     (λ c κs. search needs)
     (λ c κs. search needs)
-    (λ c κs. search needs)
+    (λ c κs. search (first-there, second-there, third-there))
     returns)

@@ -4,7 +4,7 @@ use borrow.Author.Needs.{needs}
 use native.Mathlib.Omega.{arith}
 use Rattle.scratch_tables.specs.Tables.{tablesOf}
 use Rattle.repair_model.specs.Search.{badAt}
-use Rattle.repair_search.specs.SearchLoops.{lowest-none, Walks, walks-begin, walks-stop, walks-home, walks-next}
+use Rattle.repair_search.specs.SearchLoops.{corners-between, lowest-none, Walks, walks-begin, walks-stop, walks-home, walks-next}
 use Rattle.repair_search.proofs.lowest_on_walks.Statement.{statement}
 use Rattle.repair_search.proofs.lowest_on_walks.Tie as tie
 
@@ -47,9 +47,9 @@ lowest-on-walks-spec =
     (λ c κs. search needs)
     (λ c κs. search needs)
     (λ c κs. search needs)
-    (λ c κs. search needs)
-    (λ c κs. search needs)
-    (λ c κs. search needs)
+    (λ c κs. search (corners-between, needs))
+    (λ c κs. search (corners-between, needs))
+    (λ c κs. search (corners-between, needs))
     (λ c. search needs)
     (λ c. search needs)
     loop-again

@@ -12,7 +12,7 @@ add-at-requires : tie.Need-add-at-requires
 add-at-requires c κs =
     let start : tie.Start = search in
     let after-walk : tie.After-walk = search in
-    rw (toZ-ofZ (start .fits .x)) (first-room _ _ _ _ _ _ (start .pre) _ (rw (toZ-ofZ (start .fits .x)) at (after-walk .walk .ensures)) _
+    rw (toZ-ofZ (start .fits .x)) (first-room _ _ _ _ _ (start .pre) _ (rw (toZ-ofZ (start .fits .x)) at (after-walk .walk .ensures)) _
     (c .before .origin .ensures .0))
 
 add-at-requires-2 : tie.Need-add-at-requires-2
@@ -21,7 +21,7 @@ add-at-requires-2 c κs =
     let after-walk : tie.After-walk = search in
     let after-vertex : tie.After-origin = search in
     let after-add-at : tie.After-add-at = search in
-    rw (toZ-ofZ (start .fits .x)) (last-room _ _ _ _ _ _ (start .pre) _ (rw (toZ-ofZ (start .fits .x)) at (after-walk .walk .ensures)) _
+    rw (toZ-ofZ (start .fits .x)) (last-room _ _ _ _ _ (start .pre) _ (rw (toZ-ofZ (start .fits .x)) at (after-walk .walk .ensures)) _
     (after-vertex .origin .ensures .0) _ (rw (toZ-ofZ (start .fits .x)) at (after-add-at .add-at .ensures)) _ (c .before .origin2 .ensures .0))
 
 returns : tie.Need-returns
@@ -31,7 +31,7 @@ returns c =
     let after-vertex : tie.After-origin = search in
     let after-add-at : tie.After-add-at = search in
     let after-vertex2 : tie.After-origin2 = search in
-    moved-all _ _ _ _ _ _ (start .pre) _ (rw (toZ-ofZ (start .fits .x)) at (after-walk .walk .ensures)) _ (after-vertex .origin .ensures .0) _
+    moved-all _ _ _ _ _ (start .pre) _ (rw (toZ-ofZ (start .fits .x)) at (after-walk .walk .ensures)) _ (after-vertex .origin .ensures .0) _
     (rw (toZ-ofZ (start .fits .x)) at (after-add-at .add-at .ensures)) _ (after-vertex2 .origin2 .ensures .0) _
     (rw (toZ-ofZ (start .fits .x)) at (c .before .add-at2 .ensures))
 

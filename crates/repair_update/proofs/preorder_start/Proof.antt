@@ -1,15 +1,14 @@
 -- `repair_update::preorder_start` meets its contract: one of two columns. Assumes nothing.
-use mathlib.Core.Path.{_∙_}
 use Rattle.repair_update.specs.WalkLoop.{preorder-left, preorder-right}
 use borrow.Author.Needs.{needs}
 use Rattle.repair_update.proofs.preorder_start.Statement.{statement}
 use Rattle.repair_update.proofs.preorder_start.Tie as tie
 
 returns : tie.Need-returns
-returns c = (c .count-start .ensures .0 ∙ preorder-left _ _ (c .before .if1 .taken), c .count-start .ensures .1)
+returns c = search preorder-left
 
 returns-2 : tie.Need-returns-2
-returns-2 c = (c .mark-start .ensures .0 ∙ preorder-right _ _ (c .before .if1 .left), c .mark-start .ensures .1)
+returns-2 c = search preorder-right
 
 pub preorder-start-spec : {M : Type 1} → statement M
 preorder-start-spec = tie.close (tie.spec (λ c κs. search needs) (λ c κs. search needs) returns returns-2)

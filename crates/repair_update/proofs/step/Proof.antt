@@ -2,7 +2,7 @@
 use Prim.Native.Nat.{ℕ}
 use mathlib.Core.Path.{ap, _∙_, subst}
 use mir.Facts.{toZ-ofZ}
-use Rattle.repair_model.specs.PackedWords.{field0}
+use Rattle.scratch_tables.specs.Fields.{field0}
 use Rattle.repair_update.specs.WalkLoop.{SubtreePre, SubtreeAdded}
 use borrow.Author.Needs.{needs}
 use Rattle.repair_update.proofs.step.Statement.{statement}

@@ -5,7 +5,7 @@ use native.Mathlib.Omega.{arith}
 use mir.Facts.{toZ-ofZ}
 use mir.Syntax.{w64}
 use mir.Val.{toZ, ofZ}
-use Rattle.repair_update.specs.WalkLoop.{Walking, walking-none, walking-home, walking-over, walking-low, walking-subtree, walking-next}
+use Rattle.repair_update.specs.WalkLoop.{Walking, walking-none, walking-home, walking-over, walking-there, walking-subtree, walking-next}
 use Rattle.repair_update.proofs.walk.Statement.{statement}
 use Rattle.repair_update.proofs.walk.Tie as tie
 
@@ -25,7 +25,7 @@ returns c =
     rw (toZ-ofZ (start .fits .x)) at (walking-home (at-loop .loop .inv) (c .if1 .taken))
 
 step-requires : tie.Need-step-requires Inv-loop μ-loop
-step-requires c κs = search (walking-low, walking-subtree)
+step-requires c κs = search (walking-there, walking-subtree)
 
 loop-again : tie.Need-loop-again Inv-loop μ-loop
 loop-again c = search walking-next

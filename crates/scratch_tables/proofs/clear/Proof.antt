@@ -1,4 +1,4 @@
--- `scratch_tables::clear` meets its contract, from that of `clear_from`. Assumes nothing.
+-- `scratch_tables::clear` meets its contract, from that of `clear_between`. Assumes nothing.
 use Rattle.scratch_tables.specs.Tables.{cleared-all}
 use borrow.Author.Needs.{needs}
 use Rattle.scratch_tables.proofs.clear.Statement.{statement}

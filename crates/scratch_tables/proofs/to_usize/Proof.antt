@@ -1,23 +1,26 @@
--- `scratch_tables::to_usize` meets its contract: the test of the sign decides which case of the definition it is. Assumes nothing.
+-- `scratch_tables::to_usize` meets its contract: without its highest bit a word is a natural number. Assumes nothing.
+use mathlib.Core.Path.{_≡_, _∙_, ap}
+use lib.IntN.{ℤ, pos, natAbs}
+use lib.Bits.{and-mask, mask-lt}
+use mir.Facts.{toZ-pos, fits-of-lt}
+use mir.Syntax.{w64}
+use mir.Val.{toZ, ofZ}
 use native.Mathlib.Omega.{arith}
-use mir.Facts.{toZ-ofZ, fits-natAbs}
-use Rattle.scratch_tables.specs.Tables.{toNatural-below, toNatural-least, toNatural-small}
+use Rattle.scratch_tables.specs.Tables.{toNatural}
+use borrow.Author.Needs.{needs}
 use Rattle.scratch_tables.proofs.to_usize.Statement.{statement}
 use Rattle.scratch_tables.proofs.to_usize.Tie as tie
 
 cast-result : tie.Need-cast-result
 cast-result c =
-    let e = toZ-ofZ (c .before .fits .x) in
-    rw e (toNatural-least (c .before .args .x) (rw e at (c .if1 .left)) .0, fits-natAbs tt (c .before .fits .x))
+    let few = mask-lt (ofZ w64 (c .args .x)) 63 in
+    rw (toZ-pos w64 few) (tt, fits-of-lt (omega arith))
 
 returns : tie.Need-returns
-returns c = (toNatural-below (c .before .args .x) (rw (toZ-ofZ (c .before .fits .x)) at (c .if1 .taken)), omega arith)
-
-returns-2 : tie.Need-returns-2
-returns-2 c =
-    let e = toZ-ofZ (c .before .fits .x) in
-    let q = toNatural-least (c .before .args .x) (rw e at (c .if1 .left)) .1 in
-    rw e (q, rw q (toNatural-small (c .before .args .x) (c .before .fits .x)))
+unfolding toNatural
+returns c =
+    let few = mask-lt (ofZ w64 (c .args .x)) 63 in
+    rw (toZ-pos w64 few) (and-mask (ofZ w64 (c .args .x)) 63, few)
 
 pub to-usize-spec : {M : Type 1} → statement M
-to-usize-spec = tie.close (tie.spec cast-result returns returns-2)
+to-usize-spec = tie.close (tie.spec cast-result returns)

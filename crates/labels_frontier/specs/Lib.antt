@@ -1,0 +1,2 @@
+-- What the code of the frontier needs besides the definition of its work.
+pub mod FrontierLaws

@@ -1,0 +1,2 @@
+-- The labels written from scratch.
+pub mod Writing

@@ -1,0 +1,2 @@
+-- The tables of the mesh check.
+pub mod Incidence
