@@ -1,19 +1,32 @@
 /* The host's call against the second program, for libFuzzer: numbers and every byte of the listing buffer have to be
- * equal, with text and listing at guard pages. Mutations know the job text, its lines and its fields. */
+ * equal, with text and listing at guard pages. Where the text has a mesh and weights, so have the numbers and buffers
+ * of the calls on them, with an outer number that comes from the text. Mutations know the job text, its lines and its
+ * fields. */
 #include "lent.h"
 #include "packmap.h"
 
-enum { LISTING = 16384, VERTICES = 256, FIELD = 32 };
+enum { LISTING = PACKMAP_BYTES, VERTICES = PACKMAP_JOB_VERTICES, FIELD = 32 };
 
+/* The second program's calls: as those of the header, under other names. */
 uint64_t second_job(const uint8_t *text, size_t text_len, uint8_t *listing, size_t listing_len);
+#define MESH size_t n, size_t outer, const uint16_t *triangles, size_t triangles_len
+#define SCRATCH int64_t *scratch, size_t scratch_len, uint64_t *carried
+uint64_t second_mesh_check(MESH, SCRATCH);
+uint64_t second_labels(MESH, uint8_t *labels, size_t labels_len, SCRATCH);
+uint64_t second_forward(MESH, const int64_t *weights, size_t weights_len, int64_t *b, size_t b_len, SCRATCH);
+uint64_t second_backward(MESH, const int64_t *b, size_t b_len, int64_t *weights, size_t weights_len, SCRATCH);
+uint64_t second_repair(MESH, int64_t *weights, size_t weights_len, int64_t *b, size_t b_len, SCRATCH);
 size_t LLVMFuzzerMutate(uint8_t *data, size_t size, size_t most);
 
 /* --- One text --- */
 
-static unsigned long met[26]; /* how often each number was answered; 0 for a listing */
+/* How often each number was answered to a text, 0 for a listing, and by the calls on a mesh. */
+static unsigned long met[26], met_by_calls[26];
 
-/* What libFuzzer takes for coverage too: each number, and how many raises, by their digits. */
-__attribute__((section("__libfuzzer_extra_counters"))) static uint8_t reached[32];
+/* What libFuzzer takes for coverage too: each number, and how many raises, by their digits; behind them each number of
+ * the calls on a mesh. */
+enum { DIGITS = 26, BY_CALLS = 32 };
+__attribute__((section("__libfuzzer_extra_counters"))) static uint8_t reached[64];
 
 static uint64_t compare(const uint8_t *text, size_t len, size_t room) {
     static uint8_t due[LISTING];
@@ -32,14 +45,163 @@ static uint64_t compare(const uint8_t *text, size_t len, size_t room) {
     if (answer < 65536 && answer > 0) {
         const uint8_t *end = memchr(due, '\n', answer);
         for (size_t digits = 0; end && end[-1 - (long)digits] != '\t'; digits++)
-            reached[20 + digits] = 1;
+            reached[DIGITS + digits] = 1;
     }
     clear(from);
     clear(to);
     return answer;
 }
 
+/* A job; it need not be accepted. */
+struct job {
+    unsigned n, triangle[2 * VERTICES][3];
+    int weight[2 * VERTICES];
+};
+
+static bool read_job(const uint8_t *data, size_t size, struct job *job) {
+    static char text[LISTING + 1];
+    const char *at = text;
+    int used = 0;
+    if (size > LISTING)
+        return false;
+    memcpy(text, data, size);
+    text[size] = 0;
+    if (sscanf(at, "pack-map\t%u\n%n", &job->n, &used) != 1 || job->n < 3 || job->n > VERTICES)
+        return false;
+    at += used;
+    for (unsigned k = 0; k < 2 * job->n - 4; k++, at += used) {
+        unsigned *t = job->triangle[k];
+        if (sscanf(at, "t\t%u\t%u\t%u\n%n", &t[0], &t[1], &t[2], &used) != 3)
+            return false;
+    }
+    for (unsigned k = 0; k < 2 * job->n - 5; k++, at += used)
+        if (sscanf(at, "w\t%d\n%n", &job->weight[k], &used) != 1)
+            return false;
+    return true;
+}
+
+/* --- The calls on the mesh of a text --- */
+
+enum call { CHECK, LABELS, FORWARD, BACKWARD, REPAIR };
+enum part { TRIANGLE_PART, LABEL_PART, WEIGHT_PART, COORDINATE_PART, SCRATCH_PART, CARRIED_PART, PARTS };
+
+/* Room for each slice of the largest job. */
+struct buffers {
+    uint16_t triangles[PACKMAP_TRIANGLES(VERTICES)];
+    uint8_t labels[PACKMAP_LABELS(VERTICES)];
+    int64_t weights[PACKMAP_WEIGHTS(VERTICES)], coordinates[PACKMAP_COORDINATES(VERTICES)];
+    int64_t scratch[PACKMAP_SCRATCH(VERTICES)];
+    uint64_t carried;
+};
+
+struct slices {
+    void *at[PARTS];
+    size_t bytes[PARTS];
+};
+
+static struct slices slices(struct buffers *b, size_t n) {
+    return (struct slices){{b->triangles, b->labels, b->weights, b->coordinates, b->scratch, &b->carried},
+                           {PACKMAP_TRIANGLES(n) * sizeof *b->triangles, PACKMAP_LABELS(n) * sizeof *b->labels,
+                            PACKMAP_WEIGHTS(n) * sizeof *b->weights, PACKMAP_COORDINATES(n) * sizeof *b->coordinates,
+                            PACKMAP_SCRATCH(n) * sizeof *b->scratch, sizeof b->carried}};
+}
+
+/* A call of the proved ones or of the second program's. */
+static uint64_t make(bool proved, enum call call, size_t n, size_t outer, const struct slices *s) {
+#define GIVEN_MESH n, outer, s->at[TRIANGLE_PART], PACKMAP_TRIANGLES(n)
+#define GIVEN_WEIGHTS s->at[WEIGHT_PART], PACKMAP_WEIGHTS(n)
+#define GIVEN_COORDINATES s->at[COORDINATE_PART], PACKMAP_COORDINATES(n)
+#define GIVEN_SCRATCH s->at[SCRATCH_PART], PACKMAP_SCRATCH(n), s->at[CARRIED_PART]
+    switch (call) {
+    case CHECK:
+        return (proved ? packmap_mesh_check : second_mesh_check)(GIVEN_MESH, GIVEN_SCRATCH);
+    case LABELS:
+        return (proved ? packmap_labels : second_labels)(GIVEN_MESH, s->at[LABEL_PART], PACKMAP_LABELS(n),
+                                                         GIVEN_SCRATCH);
+    case FORWARD:
+        return (proved ? packmap_forward : second_forward)(GIVEN_MESH, GIVEN_WEIGHTS, GIVEN_COORDINATES, GIVEN_SCRATCH);
+    case BACKWARD:
+        return (proved ? packmap_backward : second_backward)(GIVEN_MESH, GIVEN_COORDINATES, GIVEN_WEIGHTS,
+                                                             GIVEN_SCRATCH);
+    default:
+        return (proved ? packmap_repair : second_repair)(GIVEN_MESH, GIVEN_WEIGHTS, GIVEN_COORDINATES, GIVEN_SCRATCH);
+    }
+}
+
+/* Both calls on the same buffers, of which the second program's stay. */
+static void compare_call(enum call call, size_t n, size_t outer, struct buffers *buffers) {
+    struct slices theirs = slices(buffers, n), ours;
+    struct lent lent[PARTS];
+    for (int k = 0; k < PARTS; k++) {
+        lent[k] = lend(k, ENDS, theirs.bytes[k], theirs.at[k], theirs.bytes[k]);
+        ours.at[k] = lent[k].at;
+    }
+    uint64_t wanted = make(false, call, n, outer, &theirs), answer = make(true, call, n, outer, &ours);
+    bool same = true, kept = true;
+    for (int k = 0; k < PARTS; k++) {
+        same &= holds(lent[k], theirs.at[k], theirs.bytes[k]);
+        kept &= clean_around(lent[k]);
+        clear(lent[k]);
+    }
+    if (answer != wanted || !same || !kept) {
+        fprintf(stderr, "call %d, n %zu, outer %zu: %llu due, %llu answered; buffers %s; bytes around them %s\n", call,
+                n, outer, (unsigned long long)wanted, (unsigned long long)answer, same ? "equal" : "differ",
+                kept ? "kept" : "changed");
+        abort();
+    }
+    met_by_calls[answer]++;
+    reached[BY_CALLS + answer] = 1;
+}
+
+/* A number from all bytes of a text (FNV-1a). */
+static uint64_t hash(const uint8_t *text, size_t len) {
+    uint64_t sum = 14695981039346656037u;
+    for (size_t k = 0; k < len; k++)
+        sum = (sum ^ text[k]) * 1099511628211u;
+    return sum ^ sum >> 32;
+}
+
+/* Most often a place, else one of the first numbers behind the last place, or any. */
+static size_t outer_number(uint64_t random, size_t n) {
+    const size_t count = 2 * n - 4, more = random / 8;
+    switch (random % 8) {
+    case 0:
+        return count + more % 3;
+    case 1:
+        return more % 2 == 0 ? SIZE_MAX : more * 11;
+    default:
+        return more % count;
+    }
+}
+
+/* Coordinates that 10, 11 or 12 may refuse, at times. */
+static void bend(uint64_t random, size_t n, int64_t *b) {
+    int64_t *at = &b[random / 8 % (3 * n)];
+    if (random % 8 == 0)
+        *at += 1;
+    if (random % 8 == 1)
+        *at = PACKMAP_LIMIT + 1;
+}
+
+static void compare_calls(const struct job *job, uint64_t random) {
+    static struct buffers start, b;
+    const size_t n = job->n, outer = outer_number(random, n);
+    memset(&start, 0x5a, sizeof start);
+    for (size_t k = 0; k < PACKMAP_TRIANGLES(n); k++)
+        start.triangles[k] = (uint16_t)job->triangle[k / 3][k % 3];
+    for (size_t k = 0; k < PACKMAP_WEIGHTS(n); k++)
+        start.weights[k] = job->weight[k];
+    for (enum call call = CHECK; call <= REPAIR; call++) {
+        if (call != BACKWARD)
+            b = start;
+        else /* the forward map has left its coordinates */
+            bend(random >> 32, n, b.coordinates);
+        compare_call(call, n, outer, &b);
+    }
+}
+
 int LLVMFuzzerTestOneInput(const uint8_t *text, size_t len) {
+    static struct job job;
     uint64_t answer = compare(text, len, LISTING);
     compare(text, len, 0);
     if (answer < 65536) {
@@ -47,15 +209,24 @@ int LLVMFuzzerTestOneInput(const uint8_t *text, size_t len) {
         compare(text, len, answer - 1);
         compare(text, len, answer + 1);
     }
+    if (read_job(text, len, &job))
+        compare_calls(&job, hash(text, len));
     return 0;
+}
+
+static void tell_met(const unsigned long *met, const int *numbers, size_t count) {
+    for (size_t k = 0; k < count; k++)
+        fprintf(stderr, " %d: %lu%s", numbers[k], met[numbers[k]], met[numbers[k]] == 0 ? " (never met)" : "");
+    fprintf(stderr, "\n");
 }
 
 static void tell(void) {
     static const int numbers[] = {1, 3, 4, 5, 6, 7, 25, 8, 9, 13, 17, 18, 19};
+    static const int by_calls[] = {21, 3, 4, 5, 6, 7, 25, 8, 9, 10, 11, 12, 13};
     fprintf(stderr, "listings: %lu; refusals:", met[0]);
-    for (size_t k = 0; k < sizeof numbers / sizeof *numbers; k++)
-        fprintf(stderr, " %d: %lu%s", numbers[k], met[numbers[k]], met[numbers[k]] == 0 ? " (never met)" : "");
-    fprintf(stderr, "\n");
+    tell_met(met, numbers, sizeof numbers / sizeof *numbers);
+    fprintf(stderr, "calls on a mesh: done: %lu; refusals:", met_by_calls[0]);
+    tell_met(met_by_calls, by_calls, sizeof by_calls / sizeof *by_calls);
 }
 
 int LLVMFuzzerInitialize(int *words, char ***word) {
@@ -85,34 +256,6 @@ static const char *a_number(void) {
         return NUMBERS[below(sizeof NUMBERS / sizeof *NUMBERS)];
     snprintf(text, sizeof text, "%d", (int)below(21) - 10);
     return text;
-}
-
-/* A job to be changed; it need not be accepted. */
-struct job {
-    unsigned n, triangle[2 * VERTICES][3];
-    int weight[2 * VERTICES];
-};
-
-static bool read_job(const uint8_t *data, size_t size, struct job *job) {
-    static char text[LISTING + 1];
-    const char *at = text;
-    int used = 0;
-    if (size > LISTING)
-        return false;
-    memcpy(text, data, size);
-    text[size] = 0;
-    if (sscanf(at, "pack-map\t%u\n%n", &job->n, &used) != 1 || job->n < 3 || job->n > VERTICES)
-        return false;
-    at += used;
-    for (unsigned k = 0; k < 2 * job->n - 4; k++, at += used) {
-        unsigned *t = job->triangle[k];
-        if (sscanf(at, "t\t%u\t%u\t%u\n%n", &t[0], &t[1], &t[2], &used) != 3)
-            return false;
-    }
-    for (unsigned k = 0; k < 2 * job->n - 5; k++, at += used)
-        if (sscanf(at, "w\t%d\n%n", &job->weight[k], &used) != 1)
-            return false;
-    return true;
 }
 
 static size_t write_job(const struct job *job, uint8_t *data, size_t most) {

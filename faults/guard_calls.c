@@ -1,6 +1,7 @@
 /* The six public calls on buffers that end, or begin, at a guard page: document 01's shells, every row of the table
  * that a call can meet, and stacks of up to 4,096 vertices. What is due comes from the papers (see shells.h), never
- * from a program.
+ * from a program. A call on a mesh is made with the outer triangle in front, and with the same triangle at other
+ * places, where the same is due.
  *
  * Each trial is made with the exact lengths and with every length one less, one more and 0: on small meshes all
  * combinations of one less, exact and one more. After each call the answer, every byte of every buffer and the bytes
@@ -56,6 +57,7 @@ struct trial {
     const struct call *call;
     const char *what;
     size_t n, sized; /* the n that is told, and the one that the buffers fit */
+    size_t outer;
     uint32_t scale;
     uint64_t number;            /* the answer that is due with exact lengths */
     const void *before[PLACES]; /* what each part holds; NULL for the pattern */
@@ -65,23 +67,23 @@ struct trial {
 #define PART(i) (void *)lent[i].at, len[i]
 
 static uint64_t make_check(const struct trial *t, const struct lent *lent, const size_t *len) {
-    return packmap_mesh_check(t->n, PART(0), PART(1), (void *)lent[2].at);
+    return packmap_mesh_check(t->n, t->outer, PART(0), PART(1), (void *)lent[2].at);
 }
 
 static uint64_t make_labels(const struct trial *t, const struct lent *lent, const size_t *len) {
-    return packmap_labels(t->n, PART(0), PART(1), PART(2), (void *)lent[3].at);
+    return packmap_labels(t->n, t->outer, PART(0), PART(1), PART(2), (void *)lent[3].at);
 }
 
 static uint64_t make_forward(const struct trial *t, const struct lent *lent, const size_t *len) {
-    return packmap_forward(t->n, PART(0), PART(1), PART(2), PART(3), (void *)lent[4].at);
+    return packmap_forward(t->n, t->outer, PART(0), PART(1), PART(2), PART(3), (void *)lent[4].at);
 }
 
 static uint64_t make_backward(const struct trial *t, const struct lent *lent, const size_t *len) {
-    return packmap_backward(t->n, PART(0), PART(1), PART(2), PART(3), (void *)lent[4].at);
+    return packmap_backward(t->n, t->outer, PART(0), PART(1), PART(2), PART(3), (void *)lent[4].at);
 }
 
 static uint64_t make_repair(const struct trial *t, const struct lent *lent, const size_t *len) {
-    return packmap_repair(t->n, PART(0), PART(1), PART(2), PART(3), (void *)lent[4].at);
+    return packmap_repair(t->n, t->outer, PART(0), PART(1), PART(2), PART(3), (void *)lent[4].at);
 }
 
 static uint64_t make_snap(const struct trial *t, const struct lent *lent, const size_t *len) {
@@ -190,8 +192,8 @@ static bool once(const struct trial *t, enum side side, const enum change *chang
         clear(lent[i]);
     }
     if (wrong && failed < 10) {
-        printf("%s, %s, n = %zu, %llu due, %s at a guard page, lengths", call->name, t->what, t->n,
-               (unsigned long long)number, side == ENDS ? "ending" : "beginning");
+        printf("%s, %s, n = %zu, outer = %zu, %llu due, %s at a guard page, lengths", call->name, t->what, t->n,
+               t->outer, (unsigned long long)number, side == ENDS ? "ending" : "beginning");
         for (int i = 0; i < call->parts; i++)
             printf(" %s,", CHANGE[change[i]]);
         printf(" %s: %s\n", where, wrong);
@@ -244,10 +246,16 @@ struct mesh {
     size_t n, sized;
     const uint16_t *triangles;
     uint64_t vertex; /* that 7 or 25 carries */
+    size_t outer;
 };
 
 static struct mesh fitting(const char *what, size_t n, const uint16_t *triangles) {
-    return (struct mesh){what, n, n, triangles, 0};
+    return (struct mesh){what, n, n, triangles, 0, 0};
+}
+
+static struct mesh opened_at(size_t outer, struct mesh m) {
+    m.outer = outer;
+    return m;
 }
 
 static struct mesh broken_at(uint64_t vertex, struct mesh m) {
@@ -257,33 +265,51 @@ static struct mesh broken_at(uint64_t vertex, struct mesh m) {
 
 /* A call on a mesh. Its last part is what the answer carries: with 7 and 25 the vertex. */
 static struct trial on(const struct mesh *m, const struct call *call, uint64_t number) {
-    struct trial t = {call, m->what, m->n, m->sized, 0, number, {m->triangles}, {0}};
+    struct trial t = {call, m->what, m->n, m->sized, m->outer, 0, number, {m->triangles}, {0}};
     if (number == 7 || number == 25)
         t.after[call->parts - 1] = &m->vertex;
     return t;
 }
 
+/* Runs a trial on a mesh. Where its outer triangle is in front, that is moved to other places too: to each one of a
+ * small mesh, else behind the next one, to the middle and to the end. */
+static void run_at_places(struct trial *t) {
+    static uint16_t moved[CORNERS];
+    const uint16_t *triangles = t->before[0];
+    const size_t count = 2 * t->sized - 4;
+    run(t);
+    if (t->outer != 0)
+        return;
+    t->before[0] = moved;
+    for (size_t place = 1; place < count; place++)
+        if (t->sized <= 8 || place == 1 || place == count / 2 || place == count - 1) {
+            move_first(triangles, place, count, moved);
+            t->outer = place;
+            run(t);
+        }
+}
+
 static void check(struct mesh m, uint64_t number) {
     struct trial t = on(&m, &CHECK, number);
-    run(&t);
+    run_at_places(&t);
 }
 
 static void label(struct mesh m, uint64_t number, const uint8_t *labels) {
     struct trial t = on(&m, &LABEL, number);
     t.after[1] = labels;
-    run(&t);
+    run_at_places(&t);
 }
 
 static void forward(struct mesh m, const int64_t *weights, uint64_t number, const int64_t *coordinates) {
     struct trial t = on(&m, &FORWARD, number);
     t.before[1] = weights, t.after[2] = coordinates;
-    run(&t);
+    run_at_places(&t);
 }
 
 static void backward(struct mesh m, const int64_t *coordinates, uint64_t number, const int64_t *weights) {
     struct trial t = on(&m, &BACKWARD, number);
     t.before[1] = coordinates, t.after[2] = weights;
-    run(&t);
+    run_at_places(&t);
 }
 
 /* With 0 and 13 the count is carried. */
@@ -293,7 +319,7 @@ static void repair(struct mesh m, const int64_t *weights, uint64_t number, uint6
     t.before[1] = weights, t.after[1] = raised, t.after[2] = coordinates;
     if (number == 0 || number == 13)
         t.after[4] = &count;
-    run(&t);
+    run_at_places(&t);
 }
 
 /* A mesh that all five calls refuse with one number, whatever else they are given. */
@@ -306,6 +332,16 @@ static void refused(struct mesh m, uint64_t number) {
     forward(m, worst, number, NULL);
     backward(m, worst, number, NULL);
     repair(m, worst, number, 0, NULL, NULL);
+}
+
+/* The same with outer numbers that are no places: modulo 2^16 or 2^32 some seem to be 0, and three times some are small
+ * modulo 2^64. 21 is asked before the mesh is looked at. */
+static void refused_outer(struct mesh m) {
+    const size_t count = 2 * m.n - 4, third = SIZE_MAX / 3 + 1;
+    const size_t none[] = {count,           count + 1, 3 * count, 65536,        (size_t)1 << 32,
+                           (size_t)1 << 63, third,     2 * third, SIZE_MAX - 1, SIZE_MAX};
+    for (size_t k = 0; k < sizeof none / sizeof *none; k++)
+        refused(opened_at(none[k], m), 21);
 }
 
 /* Weights with the coordinates that they make, there and back. */
@@ -332,15 +368,28 @@ static void checked_shells(void) {
            (const int64_t[]){3, 0, 0, 0, 3, 0, 0, 0, 3, 1, 1, 1});
     repair(tetra, (const int64_t[]){-1, -1, -1}, 0, 0, NULL,
            (const int64_t[]){-3, 0, 0, 0, -3, 0, 0, 0, -3, -1, -1, -1});
+    /* Opened at (0, 1, 3), v0 is 0, v2 is 1 and v1 is 3. The first triangle is on v0 v2, the second on v0 v1. */
+    const struct mesh other = opened_at(3, tetra);
+    label(other, 0, (const uint8_t[]){0, 1, 2, 0, 1, 2, 1, 2, 0});
+    both_ways(other, (const int64_t[]){5, 3, 2}, (const int64_t[]){10, 0, 0, 0, 0, 10, 2, 5, 3, 0, 10, 0});
 }
 
 static void rows_of_meshes(void) {
     /* No list of triangles fits these; modulo 2^16, 2^32 or 2^63 some seem to be 3. */
     const size_t none[] = {0, 1, 2, 4097, 65539, 4294967299, ((size_t)1 << 61) + 3, ((size_t)1 << 63) + 3, SIZE_MAX};
-    for (size_t k = 0; k < sizeof none / sizeof *none; k++)
-        refused((struct mesh){"row 1", none[k], 3, PAIR, 0}, 1);
-    refused((struct mesh){"n one more than the lists", 5, 4, TETRA, 0}, 2);
-    refused((struct mesh){"n one less than the lists", 3, 4, TETRA, 0}, 2);
+    for (size_t k = 0; k < sizeof none / sizeof *none; k++) {
+        refused((struct mesh){"row 1", none[k], 3, PAIR, 0, 0}, 1);
+        refused((struct mesh){"row 1 before row 21", none[k], 3, PAIR, 0, SIZE_MAX}, 1);
+    }
+    refused((struct mesh){"n one more than the lists", 5, 4, TETRA, 0, 0}, 2);
+    refused((struct mesh){"n one less than the lists", 3, 4, TETRA, 0, 0}, 2);
+    refused((struct mesh){"row 2 before row 21", 5, 4, TETRA, 0, 6}, 2);
+    refused_outer(fitting("row 21", 3, PAIR));
+    refused_outer(fitting("row 21", 4, TETRA));
+    refused_outer(fitting("row 21 before row 3", 3, ROW3));
+    refused_outer(fitting("row 21 before row 4", 3, ROW4));
+    refused_outer(fitting("row 21 before row 6", 6, ROW6));
+    refused_outer(fitting("row 21 before row 7", 8, ROW7));
     refused(fitting("row 3", 3, ROW3), 3);
     refused(fitting("row 4", 3, ROW4), 4);
     refused(fitting("row 5", 3, ROW5), 5);
@@ -399,6 +448,7 @@ static void stacks(size_t n) {
         refused(broken_at(vertex, fitting("damaged stack", n, triangles)), (uint64_t)DAMAGED_ROWS[k]);
     }
     stack(n, triangles);
+    refused_outer(m);
     check(m, 0);
     for (size_t k = 0; k < 3 * inner; k++)
         labels[k] = k % 3;
@@ -441,7 +491,7 @@ static void stacks(size_t n) {
 static void snap(const char *what, size_t n, size_t sized, uint32_t scale, const double *shares, uint64_t number,
                  double share, const int64_t *coordinates) {
     const void *told = number == 16 ? &share : NULL;
-    run(&(struct trial){&SNAP, what, n, sized, scale, number, {shares}, {NULL, coordinates, told}});
+    run(&(struct trial){&SNAP, what, n, sized, 0, scale, number, {shares}, {NULL, coordinates, told}});
 }
 
 static void drawn_points(void) {

@@ -49,6 +49,15 @@ static inline uint16_t *stack(size_t n, uint16_t *to) {
     return triple(to, 0, 1, n - 1);
 }
 
+/* A list of triangles in which the first one is moved to a place, counted from 0; the others keep their order. Where
+ * the first one was the outer triangle and now the one at that place is, the inner triangles are the same in the same
+ * order, and so are all answers. */
+static inline void move_first(const uint16_t *triangles, size_t place, size_t count, uint16_t *to) {
+    memcpy(to, triangles + 3, 3 * place * sizeof *to);
+    memcpy(to + 3 * place, triangles, 3 * sizeof *to);
+    memcpy(to + 3 * place + 3, triangles + 3 * place + 3, 3 * (count - place - 1) * sizeof *to);
+}
+
 /* The coordinates of weights on the stack. */
 static inline void stack_coordinates(size_t n, const int64_t *weights, int64_t *b) {
     int64_t sum = 0, left = 0, right = 0;

@@ -3,7 +3,8 @@
  *
  * VmData counts the bytes that the process has mapped for data, and Anonymous with Swap the pages of them that it has
  * ever touched and still has. The kernel finds the latter by walking the page tables, so neither depends on the page
- * cache or on counters that lag behind, and both have to be equal. Every answer is looked at too. */
+ * cache or on counters that lag behind, and both have to be equal. Every answer is looked at too. The outer triangle of
+ * a mesh is at another place each time, unless the answer depends on it. */
 #include <math.h>
 #include <stdbool.h>
 #include <stdio.h>
@@ -13,6 +14,7 @@
 #include "shells.h"
 
 enum { CALLS = 1000000, WARM = 10000, SMALL = 16, LISTING = 64 };
+enum outer { ANY, FIRST, BEHIND, FAR }; /* any place at all; the first; the one behind the last; the largest number */
 enum call { CHECK, LABELS, FORWARD, BACKWARD, REPAIR, SNAP, JOB };
 
 #define TETRA_TEXT "pack-map\t4\nt\t0\t2\t1\nt\t0\t3\t2\nt\t3\t1\t2\nt\t0\t1\t3\n"
@@ -31,6 +33,7 @@ static const struct step {
     uint64_t due;
     size_t n;
     const uint16_t *triangles;
+    enum outer outer;
     int64_t numbers[12]; /* weights or coordinates, 0 from there on */
     double shares[6];
     uint32_t scale;
@@ -41,6 +44,10 @@ static const struct step {
     {CHECK, 0, SMALL, .triangles = pile},
     {CHECK, 1, 2, .triangles = PAIR},
     {CHECK, 2, 4, .triangles = TETRA, .cut = 1},
+    {CHECK, 1, 2, .triangles = PAIR, .outer = FAR},
+    {CHECK, 2, 4, .triangles = TETRA, .outer = BEHIND, .cut = 1},
+    {CHECK, 21, 4, .triangles = TETRA, .outer = BEHIND},
+    {CHECK, 21, 3, .triangles = ROW3, .outer = FAR},
     {CHECK, 3, 3, .triangles = ROW3},
     {CHECK, 4, 3, .triangles = ROW4},
     {CHECK, 5, 3, .triangles = ROW5},
@@ -50,22 +57,26 @@ static const struct step {
     {CHECK, 8, 11, .triangles = ROW8},
     {LABELS, 0, 5, .triangles = FIVE},
     {LABELS, 0, SMALL, .triangles = pile},
+    {LABELS, 21, SMALL, .triangles = pile, .outer = BEHIND},
     {LABELS, 7, 8, .triangles = ROW7},
     {LABELS, 8, 11, .triangles = ROW8},
     {FORWARD, 0, 4, .triangles = TETRA, .numbers = {5, 3, 2}},
     {FORWARD, 0, SMALL, .triangles = pile, .numbers = {5, 3, 2, -7}},
+    {FORWARD, 21, 4, .triangles = TETRA, .outer = BEHIND, .numbers = {L, 1, 0}},
     {FORWARD, 25, 9, .triangles = ROW25},
     {FORWARD, 9, 4, .triangles = TETRA, .numbers = {L, 1, 0}},
-    {BACKWARD, 0, 4, .triangles = TETRA, .numbers = {10, 0, 0, 0, 10, 0, 0, 0, 10, 3, 5, 2}},
-    {BACKWARD, 9, 4, .triangles = TETRA, .numbers = {1, 0, 0, 0, 1, 0, 0, 0, 1, L, -L, 1}},
-    {BACKWARD, 10, 4, .triangles = TETRA, .numbers = {1, 0, 0, 0, 1, 0, 0, 0, 1, L + 1, -L, 0}},
-    {BACKWARD, 11, 4, .triangles = TETRA, .numbers = {9, 0, 0, 1, 8, 0, 0, 0, 9, 3, 5, 1}},
-    {BACKWARD, 12, 4, .triangles = TETRA, .numbers = {9, 0, 0, 0, 9, 0, 0, 0, 9, 3, 5, 2}},
+    {BACKWARD, 0, 4, .triangles = TETRA, .outer = FIRST, .numbers = {10, 0, 0, 0, 10, 0, 0, 0, 10, 3, 5, 2}},
+    {BACKWARD, 21, 4, .triangles = TETRA, .outer = FAR, .numbers = {9, 0, 0, 1, 8, 0, 0, 0, 9, 3, 5, 1}},
+    {BACKWARD, 9, 4, .triangles = TETRA, .outer = FIRST, .numbers = {1, 0, 0, 0, 1, 0, 0, 0, 1, L, -L, 1}},
+    {BACKWARD, 10, 4, .triangles = TETRA, .outer = FIRST, .numbers = {1, 0, 0, 0, 1, 0, 0, 0, 1, L + 1, -L, 0}},
+    {BACKWARD, 11, 4, .triangles = TETRA, .outer = FIRST, .numbers = {9, 0, 0, 1, 8, 0, 0, 0, 9, 3, 5, 1}},
+    {BACKWARD, 12, 4, .triangles = TETRA, .outer = FIRST, .numbers = {9, 0, 0, 0, 9, 0, 0, 0, 9, 3, 5, 2}},
     {REPAIR, 0, 4, .triangles = TETRA, .numbers = {5, 3, -1}},
     {REPAIR, 0, SMALL, .triangles = pile},
+    {REPAIR, 21, SMALL, .triangles = pile, .outer = FAR},
     {REPAIR, 25, 9, .triangles = ROW25},
     {REPAIR, 9, 4, .triangles = TETRA, .numbers = {L, 1, 0}},
-    {REPAIR, 13, 4, .triangles = TETRA, .numbers = {1, -1073741821, 1}},
+    {REPAIR, 13, 4, .triangles = TETRA, .outer = FIRST, .numbers = {1, -1073741821, 1}},
     {SNAP, 0, 3, .shares = {0.5, -0.0, 1, 2, -1, 0.1}, .scale = 4},
     {SNAP, 0, 3, .shares = {0.5, -0.0, 1, 2, -1, 0.1}, .scale = 0},
     {SNAP, 2, 3, .scale = 4, .cut = 1},
@@ -84,27 +95,43 @@ static const struct step {
 };
 enum { STEP_COUNT = sizeof STEPS / sizeof *STEPS };
 
-static uint64_t make(const struct step *s) {
+/* The outer number of a step; `random` is another one each time. */
+static size_t outer_of(const struct step *s, uint32_t random) {
+    const size_t count = s->n < 3 ? 1 : 2 * s->n - 4;
+    switch (s->outer) {
+    case ANY:
+        return random % count;
+    case BEHIND:
+        return count;
+    case FAR:
+        return SIZE_MAX;
+    default:
+        return 0;
+    }
+}
+
+static uint64_t make(const struct step *s, uint32_t random) {
     static int64_t scratch[10 * SMALL], weights[2 * SMALL - 5], coordinates[3 * SMALL];
     static uint8_t labels[3 * (2 * SMALL - 5)], listing[LISTING];
     uint64_t carried;
     double outside;
-    const size_t n = s->n, t = 3 * (2 * n - 4), w = 2 * n - 5, b = 3 * n, left = 10 * n - s->cut;
+    const size_t n = s->n, outer = outer_of(s, random), t = 3 * (2 * n - 4), w = 2 * n - 5, b = 3 * n,
+                 left = 10 * n - s->cut;
     switch (s->call) {
     case CHECK:
-        return packmap_mesh_check(n, s->triangles, t, scratch, left, &carried);
+        return packmap_mesh_check(n, outer, s->triangles, t, scratch, left, &carried);
     case LABELS:
-        return packmap_labels(n, s->triangles, t, labels, 3 * w, scratch, left, &carried);
+        return packmap_labels(n, outer, s->triangles, t, labels, 3 * w, scratch, left, &carried);
     case FORWARD:
         memset(weights, 0, sizeof weights);
         memcpy(weights, s->numbers, sizeof s->numbers);
-        return packmap_forward(n, s->triangles, t, weights, w, coordinates, b, scratch, left, &carried);
+        return packmap_forward(n, outer, s->triangles, t, weights, w, coordinates, b, scratch, left, &carried);
     case BACKWARD:
-        return packmap_backward(n, s->triangles, t, s->numbers, b, weights, w, scratch, left, &carried);
+        return packmap_backward(n, outer, s->triangles, t, s->numbers, b, weights, w, scratch, left, &carried);
     case REPAIR:
         memset(weights, 0, sizeof weights);
         memcpy(weights, s->numbers, sizeof s->numbers);
-        return packmap_repair(n, s->triangles, t, weights, w, coordinates, b, scratch, left, &carried);
+        return packmap_repair(n, outer, s->triangles, t, weights, w, coordinates, b, scratch, left, &carried);
     case SNAP:
         return packmap_snap_points(n, s->shares, 2 * n, s->scale, coordinates, b - s->cut, &outside);
     default:
@@ -148,10 +175,10 @@ int main(void) {
         /* each kind in turn at first, then at random */
         random = 1664525 * random + 1013904223;
         const struct step *s = &STEPS[k <= STEP_COUNT ? k - 1 : (random >> 8) % STEP_COUNT];
-        uint64_t answer = make(s);
+        uint64_t answer = make(s, random >> 4);
         if (answer != s->due && wrong++ < 10)
-            printf("step %d: %llu due, %llu answered\n", (int)(s - STEPS), (unsigned long long)s->due,
-                   (unsigned long long)answer);
+            printf("step %d, random %u: %llu due, %llu answered\n", (int)(s - STEPS), random,
+                   (unsigned long long)s->due, (unsigned long long)answer);
         if (k == WARM)
             first = memory();
     }

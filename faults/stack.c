@@ -9,7 +9,7 @@
 #include "packmap.h"
 #include "shells.h"
 
-enum { ROOM = 1 << 20, UNTOUCHED = 0xa5, N = MOST };
+enum { ROOM = 1 << 20, UNTOUCHED = 0xa5, N = MOST, OUTER = N }; /* the outer triangle amid the others */
 
 static uint8_t room[ROOM] __attribute__((aligned(16)));
 static uint16_t triangles[CORNERS];
@@ -20,26 +20,26 @@ static size_t text_len;
 static uint64_t answer, carried;
 
 static void check(void) {
-    answer = packmap_mesh_check(N, triangles, CORNERS, scratch, PACKMAP_SCRATCH(N), &carried);
+    answer = packmap_mesh_check(N, OUTER, triangles, CORNERS, scratch, PACKMAP_SCRATCH(N), &carried);
 }
 
 static void label(void) {
-    answer = packmap_labels(N, triangles, CORNERS, labels, sizeof labels, scratch, PACKMAP_SCRATCH(N), &carried);
+    answer = packmap_labels(N, OUTER, triangles, CORNERS, labels, sizeof labels, scratch, PACKMAP_SCRATCH(N), &carried);
 }
 
 static void forward(void) {
-    answer = packmap_forward(N, triangles, CORNERS, weights, WEIGHTS_MOST, coordinates, PACKMAP_COORDINATES(N), scratch,
-                             PACKMAP_SCRATCH(N), &carried);
+    answer = packmap_forward(N, OUTER, triangles, CORNERS, weights, WEIGHTS_MOST, coordinates, PACKMAP_COORDINATES(N),
+                             scratch, PACKMAP_SCRATCH(N), &carried);
 }
 
 static void backward(void) {
-    answer = packmap_backward(N, triangles, CORNERS, coordinates, PACKMAP_COORDINATES(N), weights, WEIGHTS_MOST,
+    answer = packmap_backward(N, OUTER, triangles, CORNERS, coordinates, PACKMAP_COORDINATES(N), weights, WEIGHTS_MOST,
                               scratch, PACKMAP_SCRATCH(N), &carried);
 }
 
 static void repair(void) {
-    answer = packmap_repair(N, triangles, CORNERS, weights, WEIGHTS_MOST, coordinates, PACKMAP_COORDINATES(N), scratch,
-                            PACKMAP_SCRATCH(N), &carried);
+    answer = packmap_repair(N, OUTER, triangles, CORNERS, weights, WEIGHTS_MOST, coordinates, PACKMAP_COORDINATES(N),
+                            scratch, PACKMAP_SCRATCH(N), &carried);
 }
 
 static void snap(void) {

@@ -9,8 +9,10 @@
  *   - Its pointer is not null, not even for a length of 0, and aligned for its type.
  *   - No slice that a call may write overlaps another one of that call. The same goes for *carried and *outside, which
  *     are lent and written as a slice of one item is.
- *   - Triangles are triples of vertex numbers from 0. The first is the outer one: its vertices, as listed, are v0, v2,
- *     v1. The others are inner; weights and labels stand in their order.
+ *   - Triangles are triples of vertex numbers from 0. Every call on a mesh is told the place of the outer one, `outer`,
+ *     counted from 0: no triangle has to be moved. Its vertices, as listed, are v0, v2, v1. The others are inner, in
+ *     listed order; weights and labels stand in that order. So inner triangle k, counted from 0, is the one at place k
+ *     where k is below `outer`, and else at place k + 1.
  *   - Coordinates are b0, b1, b2 of each vertex; shares are x, y of each drawn point.
  *   - Scratch may hold anything.
  *
@@ -82,6 +84,7 @@ enum packmap_refusal {
     PACKMAP_REFUSED_LINE = 17,
     PACKMAP_REFUSED_LISTING = 18,
     PACKMAP_REFUSED_TEXT = 19,
+    PACKMAP_REFUSED_OUTER_NUMBER = 21,
     PACKMAP_REFUSED_STRAY = 25
 };
 
@@ -128,6 +131,8 @@ static inline const char *packmap_words(uint64_t number) {
         return "the listing buffer is too short";
     case PACKMAP_REFUSED_TEXT:
         return "the text is too long";
+    case PACKMAP_REFUSED_OUTER_NUMBER:
+        return "the outer number is not below the number of triangles";
     case PACKMAP_REFUSED_STRAY:
         return "a vertex is in no triangle";
     default:
@@ -137,30 +142,31 @@ static inline const char *packmap_words(uint64_t number) {
 
 /* ---- calls on lent slices */
 
-/* Whether the mesh is a sphere: 1, 2, 3 to 6, 7 or 25, 8. */
-uint64_t packmap_mesh_check(size_t n, const uint16_t *triangles, size_t triangles_len, int64_t *scratch,
+/* Whether the mesh is a sphere: 1, 2, 21, 3 to 6, 7 or 25, 8. Where 21 is not answered, the answer and *carried are the
+ * same for every outer number. */
+uint64_t packmap_mesh_check(size_t n, size_t outer, const uint16_t *triangles, size_t triangles_len, int64_t *scratch,
                             size_t scratch_len, uint64_t *carried);
 
-/* Writes the labels 0, 1, 2 of the inner triangles' corners: 1, 2, 3 to 6, 7 or 25, 8. */
-uint64_t packmap_labels(size_t n, const uint16_t *triangles, size_t triangles_len, uint8_t *labels, size_t labels_len,
-                        int64_t *scratch, size_t scratch_len, uint64_t *carried);
+/* Writes the labels 0, 1, 2 of the inner triangles' corners: 1, 2, 21, 3 to 6, 7 or 25, 8. */
+uint64_t packmap_labels(size_t n, size_t outer, const uint16_t *triangles, size_t triangles_len, uint8_t *labels,
+                        size_t labels_len, int64_t *scratch, size_t scratch_len, uint64_t *carried);
 
-/* Writes the coordinates of weights: 1, 2, 3 to 6, 7 or 25, 8, 9. */
-uint64_t packmap_forward(size_t n, const uint16_t *triangles, size_t triangles_len, const int64_t *weights,
-                         size_t weights_len, int64_t *coordinates, size_t coordinates_len, int64_t *scratch,
-                         size_t scratch_len, uint64_t *carried);
+/* Writes the coordinates of weights: 1, 2, 21, 3 to 6, 7 or 25, 8, 9. */
+uint64_t packmap_forward(size_t n, size_t outer, const uint16_t *triangles, size_t triangles_len,
+                         const int64_t *weights, size_t weights_len, int64_t *coordinates, size_t coordinates_len,
+                         int64_t *scratch, size_t scratch_len, uint64_t *carried);
 
-/* Writes the weights of coordinates: 1, 2, 3 to 6, 7 or 25, 8, 10, 11, 12, 9. */
-uint64_t packmap_backward(size_t n, const uint16_t *triangles, size_t triangles_len, const int64_t *coordinates,
-                          size_t coordinates_len, int64_t *weights, size_t weights_len, int64_t *scratch,
-                          size_t scratch_len, uint64_t *carried);
+/* Writes the weights of coordinates: 1, 2, 21, 3 to 6, 7 or 25, 8, 10, 11, 12, 9. */
+uint64_t packmap_backward(size_t n, size_t outer, const uint16_t *triangles, size_t triangles_len,
+                          const int64_t *coordinates, size_t coordinates_len, int64_t *weights, size_t weights_len,
+                          int64_t *scratch, size_t scratch_len, uint64_t *carried);
 
-/* Raises weights until no inner triangle is flat or turned, and writes their coordinates: 1, 2, 3 to 6, 7 or 25, 8, 9,
- * 13. Its raises are counted in *carried; 13 leaves the weights as after the last full raise, and their coordinates
+/* Raises weights until no inner triangle is flat or turned, and writes their coordinates: 1, 2, 21, 3 to 6, 7 or 25, 8,
+ * 9, 13. Its raises are counted in *carried; 13 leaves the weights as after the last full raise, and their coordinates
  * written. */
-uint64_t packmap_repair(size_t n, const uint16_t *triangles, size_t triangles_len, int64_t *weights, size_t weights_len,
-                        int64_t *coordinates, size_t coordinates_len, int64_t *scratch, size_t scratch_len,
-                        uint64_t *carried);
+uint64_t packmap_repair(size_t n, size_t outer, const uint16_t *triangles, size_t triangles_len, int64_t *weights,
+                        size_t weights_len, int64_t *coordinates, size_t coordinates_len, int64_t *scratch,
+                        size_t scratch_len, uint64_t *carried);
 
 /* Writes the coordinates of drawn points at a scale r of 4 to 24, or 0 for 20: 1, 2, 14, then 15 and 16 share by share.
  * A share goes to the whole number nearest to it times 2^r, halves to the even one; the third coordinate of a point is
@@ -177,9 +183,10 @@ uint64_t packmap_snap_points(size_t n, const double *shares, size_t shares_len, 
 #define PACKMAP_BYTES 16384
 
 /* Reads the job in the text, repairs its weights and writes the listing to the front of the buffer: 19, lines in turn
- * (17, and 1 after the first), 3 to 6, 7 or 25, 8, 9, 13, 18. It answers the listing's length, and bytes past the
- * listing keep what they held; or a refusal, which leaves the whole buffer as it was. The functions below take the
- * answer apart. A buffer is a slice as above: not null, and not overlapping the text. */
+ * (17, and 1 after the first), 3 to 6, 7 or 25, 8, 9, 13, 18. The text's first triangle is the outer one. It answers
+ * the listing's length, and bytes past the listing keep what they held; or a refusal, which leaves the whole buffer as
+ * it was. The functions below take the answer apart. A buffer is a slice as above: not null, and not overlapping the
+ * text. */
 uint64_t packmap_job(const uint8_t *text, size_t text_len, uint8_t *listing, size_t listing_len);
 
 /* Whether the job was refused; the answer is then 65,536 * (1 + line) + number. */

@@ -1,13 +1,13 @@
 /* Every call on lent slices, by the example of a shell of 1,000 vertices: two bad scans of it are refused, and it is
- * checked, labelled, mapped from weights to coordinates and back; then a drawing of it that is bent in places is
- * snapped to whole numbers and repaired.
+ * checked, labelled, mapped from weights to coordinates and back; it is opened at another triangle, by its number; then
+ * a drawing of it that is bent in places is snapped to whole numbers and repaired.
  *
  *     cc -IFOLDER/include host/shell.c -LFOLDER/lib -lpackmap && ./a.out
  *
  * It is C and C++. Each step is held against what the calls promise. Exit status: 0 if all of it holds, 1 otherwise.
  *
- * The shell is a tube of 333 rings of three vertices, closed by a tip. Vertex 3j + k is vertex k of ring j. Ring 0 is
- * the rim, with v0 = 0, v1 = 1, v2 = 2. */
+ * The shell is a tube of 333 rings of three vertices, closed by a tip. Vertex 3j + k is vertex k of ring j. The first
+ * triangle closes ring 0: opened there, the rim is v0 = 0, v1 = 1, v2 = 2. */
 #include <stdio.h>
 #include <stdlib.h>
 #include <string.h>
@@ -15,6 +15,7 @@
 #include "packmap.h"
 
 enum { RINGS = 333, N = 3 * RINGS + 1, TIP = N - 1, SCALE = 16 };
+enum { TRIANGLE_COUNT = 2 * N - 4, FIRST = 0, LAST = TRIANGLE_COUNT - 1 }; /* places of triangles */
 
 static uint16_t triangles[PACKMAP_TRIANGLES(N)];
 static uint8_t labels[PACKMAP_LABELS(N)];
@@ -45,7 +46,8 @@ static uint16_t *triangle(uint16_t *to, int a, int b, int c) {
     return to + 3;
 }
 
-/* The outer triangle first, v0, v2, v1; then the tube ring by ring, and the three triangles at the tip. */
+/* The triangle that closes ring 0, v0, v2, v1 where it is the outer one; then the tube ring by ring, and the three
+ * triangles at the tip. */
 static void make_shell(void) {
     uint16_t *to = triangle(triangles, 0, 2, 1);
     for (int ring = 0; ring < RINGS; ring++) {
@@ -81,15 +83,35 @@ static void draw_shell(void) {
     shares[2 * TIP] = shares[2 * TIP + 1] = 1.0 / 3;
 }
 
-/* How many inner triangles of a drawing are flat or turned. */
-static size_t flat_or_turned(const int64_t *b) {
+/* How many inner triangles of a drawing are flat or turned: all but the outer one are inner. */
+static size_t flat_or_turned(size_t outer, const int64_t *b) {
     size_t count = 0;
-    for (size_t t = 3; t < ITEMS(triangles); t += 3) {
-        const int64_t *p = b + 3 * triangles[t], *q = b + 3 * triangles[t + 1], *r = b + 3 * triangles[t + 2];
+    for (size_t t = 0; t < TRIANGLE_COUNT; t++) {
+        const uint16_t *v = triangles + 3 * t;
+        if (t == outer)
+            continue;
+        const int64_t *p = b + 3 * v[0], *q = b + 3 * v[1], *r = b + 3 * v[2];
         int64_t area = (q[0] - p[0]) * (r[1] - p[1]) - (q[1] - p[1]) * (r[0] - p[0]);
         count += area <= 0;
     }
     return count;
+}
+
+/* Whether the vertices of the outer triangle, v0, v2, v1 as listed, are drawn at the corners of a total. */
+static int at_corners(size_t outer, const int64_t *b, int64_t total) {
+    const int64_t corners[3][3] = {{total, 0, 0}, {0, 0, total}, {0, total, 0}};
+    for (size_t k = 0; k < 3; k++)
+        if (memcmp(b + 3 * triangles[3 * outer + k], corners[k], sizeof corners[k]) != 0)
+            return 0;
+    return 1;
+}
+
+/* Moves the last triangle to the front; the others follow in their order. */
+static void move_last_to_front(void) {
+    uint16_t last[3];
+    memcpy(last, triangles + 3 * LAST, sizeof last);
+    memmove(triangles + 3, triangles, 3 * LAST * sizeof *triangles);
+    memcpy(triangles, last, sizeof last);
 }
 
 /* Whether each inner triangle has the labels 0, 1, 2 along its sides. */
@@ -107,50 +129,66 @@ int main(void) {
     /* a scan that took two far vertices for one is refused, and the call tells where to look */
     make_shell();
     rename_vertex(600, 300);
-    number = packmap_mesh_check(N, triangles, ITEMS(triangles), scratch, ITEMS(scratch), &carried);
+    number = packmap_mesh_check(N, FIRST, triangles, ITEMS(triangles), scratch, ITEMS(scratch), &carried);
     holds("600 scanned as 300: vertex 300 has several rings", number == PACKMAP_REFUSED_RING && carried == 300);
     make_shell();
     rename_vertex(300, 600);
-    number = packmap_mesh_check(N, triangles, ITEMS(triangles), scratch, ITEMS(scratch), &carried);
+    number = packmap_mesh_check(N, FIRST, triangles, ITEMS(triangles), scratch, ITEMS(scratch), &carried);
     holds("300 scanned as 600: vertex 300 is in no triangle", number == PACKMAP_REFUSED_STRAY && carried == 300);
 
     make_shell();
-    done("check", packmap_mesh_check(N, triangles, ITEMS(triangles), scratch, ITEMS(scratch), &carried));
-    printf("a sphere of %d vertices and %d triangles\n", N, (int)(ITEMS(triangles) / 3));
-    done("labels",
-         packmap_labels(N, triangles, ITEMS(triangles), labels, ITEMS(labels), scratch, ITEMS(scratch), &carried));
+    done("check", packmap_mesh_check(N, FIRST, triangles, ITEMS(triangles), scratch, ITEMS(scratch), &carried));
+    printf("a sphere of %d vertices and %d triangles\n", N, TRIANGLE_COUNT);
+    done("labels", packmap_labels(N, FIRST, triangles, ITEMS(triangles), labels, ITEMS(labels), scratch, ITEMS(scratch),
+                                  &carried));
     holds("labels 0, 1, 2 along each triangle", labelled());
 
     /* weights that are all 1 give a drawing with no triangle flat or turned, and come back from it */
     for (size_t t = 0; t < ITEMS(weights); t++)
         weights[t] = 1;
-    done("forward", packmap_forward(N, triangles, ITEMS(triangles), weights, ITEMS(weights), coordinates,
+    done("forward", packmap_forward(N, FIRST, triangles, ITEMS(triangles), weights, ITEMS(weights), coordinates,
                                     ITEMS(coordinates), scratch, ITEMS(scratch), &carried));
-    holds("weights of 1: no triangle flat or turned", flat_or_turned(coordinates) == 0);
-    done("backward", packmap_backward(N, triangles, ITEMS(triangles), coordinates, ITEMS(coordinates), again,
+    holds("weights of 1: no triangle flat or turned", flat_or_turned(FIRST, coordinates) == 0);
+    done("backward", packmap_backward(N, FIRST, triangles, ITEMS(triangles), coordinates, ITEMS(coordinates), again,
                                       ITEMS(again), scratch, ITEMS(scratch), &carried));
     holds("the same weights come back", memcmp(weights, again, sizeof weights) == 0);
+
+    /* opened at its last triangle, at the tip, it is another drawing: that of the list with this triangle in front */
+    done("forward", packmap_forward(N, LAST, triangles, ITEMS(triangles), weights, ITEMS(weights), coordinates,
+                                    ITEMS(coordinates), scratch, ITEMS(scratch), &carried));
+    holds("opened at the tip: its triangle is the rim", at_corners(LAST, coordinates, ITEMS(weights)));
+    holds("opened at the tip: no triangle flat or turned", flat_or_turned(LAST, coordinates) == 0);
+    done("backward", packmap_backward(N, LAST, triangles, ITEMS(triangles), coordinates, ITEMS(coordinates), again,
+                                      ITEMS(again), scratch, ITEMS(scratch), &carried));
+    holds("opened at the tip: the same weights come back", memcmp(weights, again, sizeof weights) == 0);
+    move_last_to_front();
+    done("forward", packmap_forward(N, FIRST, triangles, ITEMS(triangles), weights, ITEMS(weights), redrawn,
+                                    ITEMS(redrawn), scratch, ITEMS(scratch), &carried));
+    holds("moved to the front it is the same drawing", memcmp(coordinates, redrawn, sizeof redrawn) == 0);
+    number = packmap_mesh_check(N, TRIANGLE_COUNT, triangles, ITEMS(triangles), scratch, ITEMS(scratch), &carried);
+    holds("there is no triangle behind the last", number == PACKMAP_REFUSED_OUTER_NUMBER);
+    make_shell();
 
     /* a drawing in doubles becomes coordinates, these give weights, and the weights are repaired */
     draw_shell();
     done("snapping", packmap_snap_points(N, shares, ITEMS(shares), SCALE, coordinates, ITEMS(coordinates), &outside));
-    size_t bent = flat_or_turned(coordinates);
+    size_t bent = flat_or_turned(FIRST, coordinates);
     printf("the drawing in doubles, snapped: %u triangles flat or turned\n", (unsigned)bent);
-    done("backward", packmap_backward(N, triangles, ITEMS(triangles), coordinates, ITEMS(coordinates), weights,
+    done("backward", packmap_backward(N, FIRST, triangles, ITEMS(triangles), coordinates, ITEMS(coordinates), weights,
                                       ITEMS(weights), scratch, ITEMS(scratch), &carried));
     memcpy(again, weights, sizeof weights);
-    done("repair", packmap_repair(N, triangles, ITEMS(triangles), weights, ITEMS(weights), coordinates,
+    done("repair", packmap_repair(N, FIRST, triangles, ITEMS(triangles), weights, ITEMS(weights), coordinates,
                                   ITEMS(coordinates), scratch, ITEMS(scratch), &carried));
     uint64_t raises = carried;
     printf("repaired with %u raises\n", (unsigned)raises);
     holds("there was something to repair", bent > 0 && raises > 0);
-    holds("no triangle flat or turned any more", flat_or_turned(coordinates) == 0);
+    holds("no triangle flat or turned any more", flat_or_turned(FIRST, coordinates) == 0);
     uint64_t changed = 0;
     for (size_t t = 0; t < ITEMS(weights); t++)
         changed += weights[t] != again[t];
     holds("as many weights changed as raises were made", changed == raises);
-    done("forward", packmap_forward(N, triangles, ITEMS(triangles), weights, ITEMS(weights), redrawn, ITEMS(redrawn),
-                                    scratch, ITEMS(scratch), &carried));
+    done("forward", packmap_forward(N, FIRST, triangles, ITEMS(triangles), weights, ITEMS(weights), redrawn,
+                                    ITEMS(redrawn), scratch, ITEMS(scratch), &carried));
     holds("the coordinates are those of the repaired weights", memcmp(coordinates, redrawn, sizeof redrawn) == 0);
     return 0;
 }

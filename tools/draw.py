@@ -4,6 +4,7 @@
     python3 tools/draw.py JOB LISTING > out.svg
     python3 tools/draw.py JOB LISTING -o out.svg
     python3 tools/draw.py --labels JOB LISTING > out.svg
+    python3 tools/draw.py --outer PLACE JOB LISTING > out.svg
 
 The drawing has one polygon for each inner triangle, the sides, the rim, and the
 vertices by number. Triangles that repair has raised are marked, and so are flat
@@ -11,6 +12,11 @@ and turned ones, which no listing of packmap has. Where a number does not fit,
 the vertex is a dot; pointing at a vertex or a triangle tells all about it.
 With --labels each inner side has an arrow too, in its colour and towards where
 it runs, and each corner its label.
+
+With --outer the outer triangle is not the first of the job's list but the one at
+that place, counted from 0. The drawing is then of the list with that triangle
+moved to the front: the job's weights belong to the others in listed order, and
+the listing has to be one of that rim, as the calls on a mesh give it.
 
 Raised triangles are those whose weight in the job differs from the weight that
 the listing's coordinates stand for, by the backward map of document 01. All of
@@ -77,7 +83,7 @@ class Reader:
 
 
 def read_job(path):
-    """n, the triangles (the outer one first) and the weights."""
+    """n, the triangles as listed and the weights."""
     reader = Reader(path)
     [n] = reader.numbers("pack-map", 1)
     if not 3 <= n <= 256:
@@ -200,10 +206,13 @@ def sides(corners):
 
 
 class Map:
-    """A mesh, its drawing, and what is to be marked."""
+    """A mesh, its outer triangle moved to the front, its drawing, and what is to be marked."""
 
-    def __init__(self, job, listing):
+    def __init__(self, job, listing, outer=0):
         n, triangles, weights = read_job(job)
+        if not 0 <= outer < len(triangles):
+            raise Malformed(f"{job}: no triangle has the outer number {outer}, there are {len(triangles)}")
+        triangles.insert(0, triangles.pop(outer))
         self.total, raises, self.b = read_listing(listing, n)
         try:
             self.mesh = Mesh(n, triangles)
@@ -512,10 +521,11 @@ def main():
     parser.add_argument("job", metavar="JOB")
     parser.add_argument("listing", metavar="LISTING")
     parser.add_argument("--labels", action="store_true", help="labels in the corners, arrows on the sides")
+    parser.add_argument("--outer", metavar="PLACE", type=int, default=0, help="place of the outer triangle, counted from 0")
     parser.add_argument("-o", "--output", metavar="OUT", help="file to write (standard output if not given)")
     words = parser.parse_args()
     try:
-        svg = "\n".join(Sheet(Map(words.job, words.listing), words.labels).svg()) + "\n"
+        svg = "\n".join(Sheet(Map(words.job, words.listing, words.outer), words.labels).svg()) + "\n"
         if words.output:
             with open(words.output, "w", encoding="ascii") as file:
                 file.write(svg)

@@ -31,6 +31,13 @@ def weights(job):
     return [int(word) for word in re.findall(r"^w\t(.*)$", job, re.MULTILINE)]
 
 
+def moved(job, start, end):
+    """The job with the triangle at one place moved to another; all else keeps its order."""
+    lines = job.splitlines(keepends=True)
+    lines.insert(1 + end, lines.pop(1 + start))
+    return "".join(lines)
+
+
 class Drawn:
     """What an SVG shows: the triangles by number with their classes, and the vertices."""
 
@@ -111,6 +118,39 @@ class Drawing(unittest.TestCase):
             job, listing, svg = ((TOP / "samples" / f"{name}.{kind}").read_text() for kind in ("job", "listing", "svg"))
             self.assertEqual(second("job", text=job), listing)
             self.assertEqual(self.draw(job, listing, *words).stdout, svg)
+
+    def test_sample_opened_elsewhere(self):
+        job = (TOP / "samples/shell-8.job").read_text()
+        listing, svg = ((TOP / "samples" / f"shell-8-at-4.{kind}").read_text() for kind in ("listing", "svg"))
+        self.assertEqual(second("job", text=moved(job, 4, 0)), listing)
+        self.assertEqual(self.draw(job, listing, "--labels", "--outer", "4").stdout, svg)
+
+    def test_outer(self):
+        """An outer triangle at another place, and another triangle as the outer one, draw as it does in front."""
+        for n in 3, 4, 9, 64:
+            job = second("sphere", n, n, "signed")
+            drawn = self.draw(job, second("job", text=job)).stdout
+            for outer in {0, 1, n - 2, 2 * n - 5}:
+                with self.subTest(n=n, outer=outer):
+                    done = self.draw(moved(job, 0, outer), second("job", text=job), "--outer", str(outer))
+                    self.assertEqual((done.stdout, done.stderr), (drawn, ""))
+                    front = moved(job, outer, 0)
+                    listing = second("job", text=front)
+                    done = self.draw(job, listing, "--outer", str(outer), "--labels")
+                    self.assertEqual((done.stdout, done.stderr), (self.draw(front, listing, "--labels").stdout, ""))
+                    corners = re.findall(r">v[012] = (\d+)<", done.stdout)
+                    rim = job.splitlines()[1 + outer].split("\t")[1:]
+                    self.assertEqual(sorted(corners), sorted(rim))
+
+    def test_no_outer(self):
+        for outer in 4, 5, -1, 2**64:
+            done = self.draw(TETRA, REPAIRED, f"--outer={outer}")
+            self.assertEqual((done.returncode, done.stdout), (1, ""))
+            self.assertRegex(done.stderr, rf"\Adraw: [^\n]* no triangle has the outer number {outer}, there are 4\n\Z")
+        # the listing is of another rim
+        done = self.draw(TETRA, REPAIRED, "--outer", "3")
+        self.assertEqual((done.returncode, done.stdout), (1, ""))
+        self.assertRegex(done.stderr, "off its corner")
 
     def test_arrows(self):
         """Every inner side once, and from each inner vertex one side of each colour."""

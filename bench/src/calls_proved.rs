@@ -10,10 +10,11 @@ fn done(call: Result<(), Refusal>) -> u64 {
 
 pub fn call(name: &str) -> Call {
     match name {
-        "check" => |_, l| done(packmap::check(l.n, &l.triangles, &mut l.scratch)),
+        "check" => |_, l| done(packmap::check(l.n, l.outer, &l.triangles, &mut l.scratch)),
         "labels" => |_, l| {
             done(packmap::labels(
                 l.n,
+                l.outer,
                 &l.triangles,
                 &mut l.labels,
                 &mut l.scratch,
@@ -22,6 +23,7 @@ pub fn call(name: &str) -> Call {
         "forward" => |_, l| {
             done(packmap::forward(
                 l.n,
+                l.outer,
                 &l.triangles,
                 &l.weights,
                 &mut l.coordinates,
@@ -31,6 +33,7 @@ pub fn call(name: &str) -> Call {
         "backward" => |_, l| {
             done(packmap::backward(
                 l.n,
+                l.outer,
                 &l.triangles,
                 &l.coordinates,
                 &mut l.weights,
@@ -40,6 +43,7 @@ pub fn call(name: &str) -> Call {
         "repair" => |_, l| {
             packmap::repair(
                 l.n,
+                l.outer,
                 &l.triangles,
                 &mut l.weights,
                 &mut l.coordinates,

@@ -10,11 +10,12 @@ fn done(call: Answer<()>) -> u64 {
 
 pub fn call(name: &str) -> Call {
     match name {
-        "check" => |w, l| done(mesh::check(w, l.n, &l.triangles, &mut l.scratch)),
+        "check" => |w, l| done(mesh::check(w, l.n, l.outer, &l.triangles, &mut l.scratch)),
         "labels" => |w, l| {
             done(labels::labels(
                 w,
                 l.n,
+                l.outer,
                 &l.triangles,
                 &mut l.labels,
                 &mut l.scratch,
@@ -24,6 +25,7 @@ pub fn call(name: &str) -> Call {
             done(maps::forward(
                 w,
                 l.n,
+                l.outer,
                 &l.triangles,
                 &l.weights,
                 &mut l.coordinates,
@@ -34,6 +36,7 @@ pub fn call(name: &str) -> Call {
             done(maps::backward(
                 w,
                 l.n,
+                l.outer,
                 &l.triangles,
                 &l.coordinates,
                 &mut l.weights,
@@ -44,6 +47,7 @@ pub fn call(name: &str) -> Call {
             let made = repair::repair(
                 w,
                 l.n,
+                l.outer,
                 &l.triangles,
                 &mut l.weights,
                 &mut l.coordinates,

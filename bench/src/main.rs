@@ -2,7 +2,9 @@
 //! and these spheres for other programs.
 //!
 //!     bench time N SEED                  a line for each row that n has: its name, microseconds
-//!                                        of the proved call, of the second program's, and raises
+//!                                        of the proved call, of the second program's, of the
+//!                                        proved call with the outer triangle at a random place of
+//!                                        the list, and of the earlier archive's, and raises
 //!     bench mesh N SEED SHAPE            n, then a triple of vertices a line, the outer one first
 //!     bench draw N SEED SHAPE PROGRAM    microseconds of forward with all weights 1, then b0 and
 //!                                        b1 of each vertex a line
@@ -13,18 +15,24 @@
 //!     bench worst N                      a line for each proved call that n has: its name, the longest
 //!                                        time over spheres and weights of all kinds, and on which
 //!
-//! SHAPE is random or nest, PROGRAM proved or second, ROW the first word of a row
-//! below, THREADS and SECONDS 1 to 1000. Fields of a line of times or of jobs are
-//! parted by tabs, and '-' stands where a call makes no raises. A time is the least
-//! of several runs, the two programs taking turns; both must answer and write the
-//! same, and none may refuse.
+//! SHAPE is random or nest, PROGRAM proved or second (of `one` also placed: the
+//! proved call with the outer triangle at a random place), ROW the first word of a
+//! row below, THREADS and SECONDS 1 to 1000. Fields of a line of times or of jobs
+//! are parted by tabs, and '-' stands where a call makes no raises or has no outer
+//! triangle, or there is no earlier archive. A time is the least of several runs, the calls taking turns; all must
+//! answer and write the same, and none may refuse.
+//!
+//! The outer triangle is the first one of the list. Where it is at a random place,
+//! it is the same triangle, and the others are in the same order.
 
+#[cfg(feature = "beside")]
+mod calls_earlier;
 mod calls_proved;
 mod calls_second;
 mod jobs;
 mod worst;
 
-use second::spheres::{scramble, weights, Rng, Surface};
+use second::spheres::{moved, scramble, weights, Rng, Surface};
 use second::text::{Job, MOST_BYTES};
 use second::{Sizes, Work, TEXT_VERTICES, VERTICES};
 use std::process::ExitCode;
@@ -92,6 +100,11 @@ const ROWS: [Row; 13] = [
 ];
 
 impl Row {
+    /// Whether the proved call takes an outer number.
+    fn by_number(&self) -> bool {
+        !["snapping", "job"].contains(&self.call)
+    }
+
     /// Whether there is such a call for n; a job text has its own limit.
     fn has(&self, n: usize) -> bool {
         self.call != "job" || TEXT_VERTICES.contains(&n)
@@ -117,6 +130,7 @@ fn refused(number: u8) -> u64 {
 #[derive(Clone, PartialEq)]
 pub struct Lent {
     pub n: usize,
+    pub outer: usize,
     pub triangles: Vec<u16>,
     pub weights: Vec<i64>,
     pub coordinates: Vec<i64>,
@@ -152,6 +166,7 @@ impl Lent {
         let mut rng = Rng(seed);
         Lent {
             n,
+            outer: 0,
             triangles: sphere(&mut rng, n, shape),
             weights: vec![1; sizes.weights],
             coordinates: vec![0; sizes.coordinates],
@@ -173,6 +188,24 @@ impl Lent {
             self.text = Job::write(self.n, &self.triangles, &self.weights);
         }
         calls_second::call("forward")(&mut Work::default(), self);
+    }
+
+    /// The same with the outer triangle, which is the first, moved to a random
+    /// place.
+    fn placed(&self, seed: u64) -> Lent {
+        let outer = 1 + Rng(seed).below(2 * self.n - 5);
+        Lent {
+            outer,
+            triangles: moved(&self.triangles, 0, outer),
+            ..self.clone()
+        }
+    }
+
+    /// What a call may have written.
+    fn written(&self) -> (&[i64], &[i64], &[u8], &[i64], &[u8]) {
+        let numbers = (&self.weights[..], &self.coordinates[..]);
+        let (labels, scratch) = (&self.labels[..], &self.scratch[..]);
+        (numbers.0, numbers.1, labels, scratch, &self.listing)
     }
 }
 
@@ -196,14 +229,17 @@ fn clock(call: impl FnOnce()) -> Duration {
     now.elapsed().min(on_processor() - before)
 }
 
-/// Answers and least times of calls that take turns on the same input, and what
-/// they leave.
-fn race<const K: usize>(calls: [Call; K], start: &Lent) -> [(u64, Duration, Lent); K] {
+/// Answers and least times of calls that take turns, each on its own input, and
+/// what they leave.
+fn race(calls: &[(Call, &Lent)]) -> Vec<(u64, Duration, Lent)> {
     let mut work = Work::default();
-    let mut ends = calls.map(|_| (0, Duration::MAX, start.clone()));
+    let ends = calls
+        .iter()
+        .map(|(_, start)| (0, Duration::MAX, (*start).clone()));
+    let mut ends: Vec<_> = ends.collect();
     let begin = Instant::now();
     for run in 1..=RUNS.end {
-        for (call, (answer, least, lent)) in calls.iter().zip(&mut ends) {
+        for ((call, start), (answer, least, lent)) in calls.iter().zip(&mut ends) {
             lent.weights.copy_from_slice(&start.weights);
             lent.coordinates.copy_from_slice(&start.coordinates);
             let time = clock(|| *answer = call(&mut work, lent));
@@ -229,34 +265,52 @@ fn mesh(n: usize, seed: u64, shape: &str) {
 
 fn time(n: usize, seed: u64) -> Result<(), String> {
     for row in ROWS.iter().filter(|row| row.has(n)) {
-        let calls = [calls_second::call(row.call), calls_proved::call(row.call)];
-        let [(answer, second, left), (other, proved, right)] = &race(calls, &row.start(n, seed));
-        let same = answer == other && left == right;
-        if !same || *answer >= REFUSED {
-            let what = if same { "is refused" } else { "differs" };
+        let (second, proved) = (calls_second::call(row.call), calls_proved::call(row.call));
+        let start = row.start(n, seed);
+        let placed = if row.by_number() {
+            start.placed(seed)
+        } else {
+            start.clone()
+        };
+        // Each proved call comes after one of the second program's.
+        let mut calls = vec![(second, &start), (proved, &start)];
+        calls.extend([(second, &placed), (proved, &placed)]);
+        #[cfg(feature = "beside")]
+        calls.extend([(second, &start), (calls_earlier::call(row.call), &start)]);
+        let ends = race(&calls);
+        let (answer, _, left) = &ends[0];
+        let same =
+            |end: &(u64, Duration, Lent)| end.0 == *answer && end.2.written() == left.written();
+        let all_same = ends.iter().all(same);
+        if !all_same || *answer >= REFUSED {
+            let what = if all_same { "is refused" } else { "differs" };
             return Err(format!("{} {what} at n = {n}, seed {seed}", row.name));
         }
         let raises = match row.call {
             "repair" => answer.to_string(),
             _ => "-".into(),
         };
-        let (proved, second) = (micros(*proved), micros(*second));
-        println!("{}\t{proved}\t{second}\t{raises}", row.name);
+        let time = |k: usize| ends.get(k).map_or("-".into(), |end| micros(end.1));
+        let (second, proved, earlier) = (time(0), time(1), time(5));
+        let placed = if row.by_number() { time(3) } else { "-".into() };
+        let name = row.name;
+        println!("{name}\t{proved}\t{second}\t{placed}\t{earlier}\t{raises}");
     }
     Ok(())
 }
 
 fn find(call: &str, program: &str) -> Call {
     match program {
-        "proved" => calls_proved::call(call),
-        _ => calls_second::call(call),
+        "second" => calls_second::call(call),
+        _ => calls_proved::call(call),
     }
 }
 
 fn draw(n: usize, seed: u64, shape: &str, program: &str) {
     let mut start = Lent::new(n, seed, shape);
     start.weigh(seed, "unit");
-    let [(_, least, left)] = &race([find("forward", program)], &start);
+    let ends = race(&[(find("forward", program), &start)]);
+    let (_, least, left) = &ends[0];
     println!("{}", micros(*least));
     for b in left.coordinates.chunks_exact(3) {
         println!("{} {}", b[0], b[1]);
@@ -271,7 +325,10 @@ fn measured(call: Call, work: &mut Work, lent: &mut Lent) -> u64 {
 fn one(row: &Row, n: usize, seed: u64, program: &str) {
     let call = find(row.call, program);
     let mut work = Work::default();
-    let start = row.start(n, seed);
+    let mut start = row.start(n, seed);
+    if program == "placed" {
+        start = start.placed(seed);
+    }
     // The second program keeps its buffers from call to call.
     if program == "second" {
         call(&mut work, &mut start.clone());
@@ -291,9 +348,13 @@ fn run(words: &[&str]) -> Option<Result<(), String>> {
         ["draw", _, _, shape @ ("random" | "nest"), program @ ("proved" | "second")] => {
             draw(size(1)?, seed(2)?, shape, program)
         }
-        ["one", word, _, _, program @ ("proved" | "second")] => {
+        ["one", word, _, _, program @ ("proved" | "second" | "placed")] => {
             let (n, seed) = (size(2)?, seed(3)?);
-            let row = ROWS.iter().find(|row| row.word == *word && row.has(n))?;
+            let mut rows = ROWS.iter().filter(|row| row.has(n));
+            let row = rows.find(|row| row.word == *word)?;
+            if *program == "placed" && !row.by_number() {
+                return None;
+            }
             one(row, n, seed, program)
         }
         ["jobs", _, _] => jobs::run(positive(1)?, positive(2)? as u64),

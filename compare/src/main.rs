@@ -9,6 +9,7 @@ mod jobs;
 mod labelling;
 mod mapping;
 mod meshes;
+mod outer;
 mod papers;
 mod repairing;
 mod snapping;
@@ -22,6 +23,7 @@ fn main() {
     let groups = [
         papers::run(),
         meshes::run(count, seed),
+        outer::run(count / 4, seed),
         labelling::run(count, seed),
         forward,
         backward,

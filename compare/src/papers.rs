@@ -8,7 +8,7 @@ use second::shells::{FIVE, PAIR, TETRA};
 fn labels(tally: &mut Tally, n: usize, mesh: &[u16], wanted: &[u8]) {
     let mut ours = vec![9; wanted.len()];
     let mut scratch = stale_scratch(n);
-    let answer = told(packmap::labels(n, mesh, &mut ours, &mut scratch));
+    let answer = told(packmap::labels(n, 0, mesh, &mut ours, &mut scratch));
     let same = answer.is_ok() && ours == wanted && scratch.iter().all(|&x| x == 0);
     tally.count(answer, same, || format!("labels {ours:?}"));
 }
@@ -17,12 +17,26 @@ fn labels(tally: &mut Tally, n: usize, mesh: &[u16], wanted: &[u8]) {
 fn maps(tally: &mut Tally, n: usize, mesh: &[u16], weights: &[i64], wanted: &[i64]) {
     let mut scratch = stale_scratch(n);
     let mut there = vec![7; wanted.len()];
-    let answer = told(packmap::forward(n, mesh, weights, &mut there, &mut scratch));
+    let answer = told(packmap::forward(
+        n,
+        0,
+        mesh,
+        weights,
+        &mut there,
+        &mut scratch,
+    ));
     tally.count(answer, answer.is_ok() && there == wanted, || {
         format!("coordinates {there:?}")
     });
     let mut back = vec![7; weights.len()];
-    let answer = told(packmap::backward(n, mesh, wanted, &mut back, &mut scratch));
+    let answer = told(packmap::backward(
+        n,
+        0,
+        mesh,
+        wanted,
+        &mut back,
+        &mut scratch,
+    ));
     tally.count(answer, answer.is_ok() && back == weights, || {
         format!("weights {back:?}")
     });

@@ -1,8 +1,8 @@
-//! Repair on random spheres, with weights of every kind: zero, negative, near
-//! the limit, refused by 9, and stopped by 13; and P6 to P8 with row 13's
-//! example, with the paper's own numbers.
+//! Repair on random spheres, with outer numbers of every kind and weights of
+//! every kind: zero, negative, near the limit, refused by 9, and stopped by 13;
+//! and P6 to P8 with row 13's example, with the paper's own numbers.
 
-use crate::meshes::{stale, stale_scratch, vertices};
+use crate::meshes::{outer_number, stale, stale_scratch, vertices};
 use crate::tally::{told, Tally};
 use second::shells::TETRA;
 use second::spheres::{self, Rng};
@@ -11,23 +11,25 @@ use second::{damage, repair, Answer, Extra, Refusal, Work};
 /// The proved call.
 fn raised(
     n: usize,
+    outer: usize,
     mesh: &[u16],
     weights: &mut [i64],
     coordinates: &mut [i64],
     scratch: &mut [i64],
 ) -> Answer<usize> {
-    told(packmap::repair(n, mesh, weights, coordinates, scratch)).map(|raises| raises as usize)
+    let answer = packmap::repair(n, outer, mesh, weights, coordinates, scratch);
+    told(answer).map(|raises| raises as usize)
 }
 
-fn one(tally: &mut Tally, work: &mut Work, n: usize, mesh: &[u16], weights: &[i64]) {
+fn one(tally: &mut Tally, work: &mut Work, n: usize, outer: usize, mesh: &[u16], weights: &[i64]) {
     let (mut ours, mut theirs) = (weights.to_vec(), weights.to_vec());
     let (mut there, mut other) = (stale(3 * n), stale(3 * n));
     let (mut scratch, mut spare) = (stale_scratch(n), stale_scratch(n));
-    let answer = raised(n, mesh, &mut ours, &mut there, &mut scratch);
-    let wanted = repair::repair(work, n, mesh, &mut theirs, &mut other, &mut spare);
+    let answer = raised(n, outer, mesh, &mut ours, &mut there, &mut scratch);
+    let wanted = repair::repair(work, n, outer, mesh, &mut theirs, &mut other, &mut spare);
     let buffers = ours == theirs && there == other && scratch == spare;
     tally.count(answer, answer == wanted && buffers, || {
-        format!("n {n}, {mesh:?}, {weights:?}: {answer:?} and {wanted:?}")
+        format!("n {n}, outer {outer}, {mesh:?}, {weights:?}: {answer:?} and {wanted:?}")
     });
 }
 
@@ -35,7 +37,7 @@ fn one(tally: &mut Tally, work: &mut Work, n: usize, mesh: &[u16], weights: &[i6
 fn paper(tally: &mut Tally, weights: [i64; 3], wanted: Answer<usize>, left: [i64; 3]) {
     let mut ours = weights;
     let mut there = stale(12);
-    let answer = raised(4, &TETRA, &mut ours, &mut there, &mut stale_scratch(4));
+    let answer = raised(4, 0, &TETRA, &mut ours, &mut there, &mut stale_scratch(4));
     let total: i64 = left.iter().sum();
     let places = [
         total, 0, 0, 0, total, 0, 0, 0, total, left[1], left[0], left[2],
@@ -50,7 +52,7 @@ fn paper(tally: &mut Tally, weights: [i64; 3], wanted: Answer<usize>, left: [i64
 pub fn run(count: usize, seed: u64) -> Tally {
     let mut rng = Rng(seed);
     let mut work = Work::default();
-    let mut tally = Tally::new("repair", &[0, 1, 2, 3, 4, 5, 6, 7, 25, 8, 9, 13]);
+    let mut tally = Tally::new("repair", &[0, 1, 2, 21, 3, 4, 5, 6, 7, 25, 8, 9, 13]);
     paper(&mut tally, [5, 3, -1], Ok(1), [5, 3, 1]);
     paper(&mut tally, [0, 0, 0], Ok(3), [1, 1, 1]);
     paper(&mut tally, [-1, -1, -1], Ok(0), [-1, -1, -1]);
@@ -60,7 +62,7 @@ pub fn run(count: usize, seed: u64) -> Tally {
         extra: Extra::Count(0),
     };
     paper(&mut tally, stopped, Err(refused), stopped);
-    one(&mut tally, &mut work, 2, &[], &[]);
+    one(&mut tally, &mut work, 2, usize::MAX, &[], &[]);
     for _ in 0..count {
         let n = vertices(&mut rng).min(400);
         let mesh = spheres::sphere(&mut rng, n);
@@ -70,18 +72,14 @@ pub fn run(count: usize, seed: u64) -> Tally {
             1 => damage::stuck(&mut rng, len),
             _ => spheres::any_weights(&mut rng, len),
         };
-        one(&mut tally, &mut work, n, &mesh, &weights);
+        let outer = outer_number(&mut rng, n);
+        one(&mut tally, &mut work, n, outer, &mesh, &weights);
         if rng.chance(16) {
             let number = damage::MESH_NUMBERS[rng.below(7)];
             let bad = damage::mesh(&mut rng, number, n.min(40));
-            one(
-                &mut tally,
-                &mut work,
-                bad.n,
-                &bad.triangles,
-                &vec![1; 2 * bad.n - 5],
-            );
-            one(&mut tally, &mut work, n, &mesh, &weights[1..]);
+            let (ones, other) = (vec![1; 2 * bad.n - 5], outer_number(&mut rng, bad.n));
+            one(&mut tally, &mut work, bad.n, other, &bad.triangles, &ones);
+            one(&mut tally, &mut work, n, outer, &mesh, &weights[1..]);
         }
     }
     tally

@@ -3,6 +3,7 @@
 extern "C" {
     pub fn packmap_mesh_check(
         n: usize,
+        outer: usize,
         triangles: *const u16,
         triangles_len: usize,
         scratch: *mut i64,
@@ -12,6 +13,7 @@ extern "C" {
 
     pub fn packmap_labels(
         n: usize,
+        outer: usize,
         triangles: *const u16,
         triangles_len: usize,
         labels: *mut u8,
@@ -23,6 +25,7 @@ extern "C" {
 
     pub fn packmap_forward(
         n: usize,
+        outer: usize,
         triangles: *const u16,
         triangles_len: usize,
         weights: *const i64,
@@ -36,6 +39,7 @@ extern "C" {
 
     pub fn packmap_backward(
         n: usize,
+        outer: usize,
         triangles: *const u16,
         triangles_len: usize,
         coordinates: *const i64,
@@ -49,6 +53,7 @@ extern "C" {
 
     pub fn packmap_repair(
         n: usize,
+        outer: usize,
         triangles: *const u16,
         triangles_len: usize,
         weights: *mut i64,

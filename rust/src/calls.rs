@@ -26,19 +26,27 @@ fn counted(call: impl FnOnce(&mut u64) -> u64) -> Result<u64, Refusal> {
 }
 
 /// Tests that the triangles form a sphere: every side once and its opposite once, around each
-/// vertex one ring of triangles, and one connected piece.
+/// vertex one ring of triangles, and one connected piece. Whether they do is the same for every
+/// `outer` that is a place.
 ///
 /// # Errors
 /// [`VertexCount`](Refusal::VertexCount), [`Length`](Refusal::Length),
-/// [`VertexNumber`](Refusal::VertexNumber), [`VertexTwice`](Refusal::VertexTwice),
-/// [`SideTwice`](Refusal::SideTwice), [`SideAlone`](Refusal::SideAlone),
-/// [`Ring`](Refusal::Ring) or [`Stray`](Refusal::Stray), [`Pieces`](Refusal::Pieces).
+/// [`OuterNumber`](Refusal::OuterNumber), [`VertexNumber`](Refusal::VertexNumber),
+/// [`VertexTwice`](Refusal::VertexTwice), [`SideTwice`](Refusal::SideTwice),
+/// [`SideAlone`](Refusal::SideAlone), [`Ring`](Refusal::Ring) or [`Stray`](Refusal::Stray),
+/// [`Pieces`](Refusal::Pieces).
 #[inline]
-pub fn check(n: usize, triangles: &[u16], scratch: &mut [i64]) -> Result<(), Refusal> {
+pub fn check(
+    n: usize,
+    outer: usize,
+    triangles: &[u16],
+    scratch: &mut [i64],
+) -> Result<(), Refusal> {
     // SAFETY: see above.
     done(|carried| unsafe {
         c::packmap_mesh_check(
             n,
+            outer,
             triangles.as_ptr(),
             triangles.len(),
             scratch.as_mut_ptr(),
@@ -57,6 +65,7 @@ pub fn check(n: usize, triangles: &[u16], scratch: &mut [i64]) -> Result<(), Ref
 #[inline]
 pub fn labels(
     n: usize,
+    outer: usize,
     triangles: &[u16],
     labels: &mut [u8],
     scratch: &mut [i64],
@@ -65,6 +74,7 @@ pub fn labels(
     done(|carried| unsafe {
         c::packmap_labels(
             n,
+            outer,
             triangles.as_ptr(),
             triangles.len(),
             labels.as_mut_ptr(),
@@ -85,6 +95,7 @@ pub fn labels(
 #[inline]
 pub fn forward(
     n: usize,
+    outer: usize,
     triangles: &[u16],
     weights: &[i64],
     coordinates: &mut [i64],
@@ -94,6 +105,7 @@ pub fn forward(
     done(|carried| unsafe {
         c::packmap_forward(
             n,
+            outer,
             triangles.as_ptr(),
             triangles.len(),
             weights.as_ptr(),
@@ -116,6 +128,7 @@ pub fn forward(
 #[inline]
 pub fn backward(
     n: usize,
+    outer: usize,
     triangles: &[u16],
     coordinates: &[i64],
     weights: &mut [i64],
@@ -125,6 +138,7 @@ pub fn backward(
     done(|carried| unsafe {
         c::packmap_backward(
             n,
+            outer,
             triangles.as_ptr(),
             triangles.len(),
             coordinates.as_ptr(),
@@ -149,6 +163,7 @@ pub fn backward(
 #[inline]
 pub fn repair(
     n: usize,
+    outer: usize,
     triangles: &[u16],
     weights: &mut [i64],
     coordinates: &mut [i64],
@@ -158,6 +173,7 @@ pub fn repair(
     counted(|carried| unsafe {
         c::packmap_repair(
             n,
+            outer,
             triangles.as_ptr(),
             triangles.len(),
             weights.as_mut_ptr(),
@@ -211,7 +227,8 @@ pub fn snap_points(
 
 /// Reads a job text (`n`, the triangles, the weights), repairs the weights, writes the listing
 /// (`n`, N, the number of raises, the coordinates) to the front of the buffer, and returns its
-/// length. Bytes past the listing keep what they held.
+/// length. The first triangle of a text is the outer one. Bytes past the listing keep what they
+/// held.
 ///
 /// A text has at most [`JOB_BYTES`](crate::JOB_BYTES) bytes and
 /// [`MOST_JOB_VERTICES`](crate::MOST_JOB_VERTICES) vertices.

@@ -15,32 +15,36 @@
 //! # Example
 //!
 //! ```
-//! // A tetrahedron. The first triangle is the outer one: v0 = 0, v2 = 2, v1 = 1.
-//! let n = 4;
+//! // A tetrahedron. The outer triangle is the one at place 0: v0 = 0, v2 = 2, v1 = 1.
+//! let (n, outer) = (4, 0);
 //! let triangles = [0, 2, 1, 0, 3, 2, 3, 1, 2, 0, 1, 3];
 //! let mut scratch = vec![0; packmap::scratch_len(n)];
-//! packmap::check(n, &triangles, &mut scratch)?;
+//! packmap::check(n, outer, &triangles, &mut scratch)?;
 //!
 //! let mut labels = vec![0; packmap::labels_len(n)];
-//! packmap::labels(n, &triangles, &mut labels, &mut scratch)?;
+//! packmap::labels(n, outer, &triangles, &mut labels, &mut scratch)?;
 //! assert_eq!(labels, [0, 1, 2, 0, 1, 2, 0, 1, 2]);
 //!
 //! // From weights to coordinates, and back.
 //! let mut coordinates = vec![0; packmap::coordinates_len(n)];
-//! packmap::forward(n, &triangles, &[5, 3, 2], &mut coordinates, &mut scratch)?;
+//! packmap::forward(n, outer, &triangles, &[5, 3, 2], &mut coordinates, &mut scratch)?;
 //! assert_eq!(coordinates, [10, 0, 0, 0, 10, 0, 0, 0, 10, 3, 5, 2]);
 //! let mut weights = vec![0; packmap::weights_len(n)];
-//! packmap::backward(n, &triangles, &coordinates, &mut weights, &mut scratch)?;
+//! packmap::backward(n, outer, &triangles, &coordinates, &mut weights, &mut scratch)?;
 //! assert_eq!(weights, [5, 3, 2]);
 //!
 //! // With -1 for the 2, the last triangle is turned. One raise puts it right.
 //! let mut weights = [5, 3, -1];
-//! let raises = packmap::repair(n, &triangles, &mut weights, &mut coordinates, &mut scratch)?;
+//! let raises = packmap::repair(n, outer, &triangles, &mut weights, &mut coordinates, &mut scratch)?;
 //! assert_eq!((raises, weights), (1, [5, 3, 1]));
 //! assert_eq!(coordinates, [9, 0, 0, 0, 9, 0, 0, 0, 9, 3, 5, 1]);
 //!
+//! // The same tetrahedron opened at its last triangle: v0 = 0, v2 = 1, v1 = 3.
+//! packmap::forward(n, 3, &triangles, &[5, 3, 2], &mut coordinates, &mut scratch)?;
+//! assert_eq!(coordinates, [10, 0, 0, 0, 0, 10, 2, 5, 3, 0, 10, 0]);
+//!
 //! // A refusal says what is wrong.
-//! let short = packmap::forward(n, &triangles, &[5, 3], &mut coordinates, &mut scratch);
+//! let short = packmap::forward(n, outer, &triangles, &[5, 3], &mut coordinates, &mut scratch);
 //! assert_eq!(short, Err(packmap::Refusal::Length));
 //! # Ok::<(), packmap::Refusal>(())
 //! ```
@@ -48,9 +52,10 @@
 //! # Meshes
 //!
 //! A mesh has `n` vertices, 3 to 4,096, numbered from 0, and `2n - 4` triangles of three vertex
-//! numbers each, all listed in the same sense of rotation. The first triangle is the outer one; its
-//! vertices, as listed, are v0, v2, v1. The other `2n - 5` are the inner ones, and weights and
-//! labels go by their order.
+//! numbers each, all listed in the same sense of rotation. Every call on a mesh is told the place of
+//! the outer triangle, `outer`, counted from 0; the vertices of that triangle, as listed, are v0, v2,
+//! v1. The other `2n - 5` are the inner ones, and weights and labels go by their order. In a job text
+//! the first triangle is the outer one.
 //!
 //! # Slices
 //!

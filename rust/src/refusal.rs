@@ -62,6 +62,8 @@ pub enum Refusal {
     Listing,
     /// 19: the job text has more than [`JOB_BYTES`](crate::JOB_BYTES) bytes.
     Text,
+    /// 21: `outer` is `2n - 4` or more, so that no triangle has this place.
+    OuterNumber,
     /// 25: a vertex is in no triangle. It is looked for together with [`Ring`](Self::Ring).
     Stray {
         /// The lowest vertex that is refused as this or as [`Ring`](Self::Ring). The calls on a
@@ -95,6 +97,7 @@ impl Refusal {
             15 => Refusal::NotFinite,
             18 => Refusal::Listing,
             19 => Refusal::Text,
+            21 => Refusal::OuterNumber,
             25 => Refusal::Stray { vertex: None },
             _ => panic!("libpackmap.a is not the one for this crate: it answered {number}"),
         }
@@ -115,7 +118,7 @@ impl Refusal {
         }
     }
 
-    /// Its number, 1 to 19 or 25, as the calls in C and the program packmap give it.
+    /// Its number, 1 to 19, 21 or 25, as the calls in C and the program packmap give it.
     pub const fn number(self) -> u8 {
         match self {
             Refusal::VertexCount => 1,
@@ -137,6 +140,7 @@ impl Refusal {
             Refusal::Line { .. } => 17,
             Refusal::Listing => 18,
             Refusal::Text => 19,
+            Refusal::OuterNumber => 21,
             Refusal::Stray { .. } => 25,
         }
     }
@@ -163,6 +167,7 @@ impl Refusal {
             Refusal::Line { .. } => "a line of the text breaks the layout",
             Refusal::Listing => "the listing buffer is too short",
             Refusal::Text => "the text is too long",
+            Refusal::OuterNumber => "the outer number is not below the number of triangles",
             Refusal::Stray { .. } => "a vertex is in no triangle",
         }
     }

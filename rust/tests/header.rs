@@ -5,7 +5,7 @@ use packmap::Refusal;
 const HEADER: &str = include_str!("../../host/packmap.h");
 
 /// One refusal for each number, in order.
-const ALL: [Refusal; 20] = [
+const ALL: [Refusal; 21] = [
     Refusal::VertexCount,
     Refusal::Length,
     Refusal::VertexNumber,
@@ -25,6 +25,7 @@ const ALL: [Refusal; 20] = [
     Refusal::Line { line: 2 },
     Refusal::Listing,
     Refusal::Text,
+    Refusal::OuterNumber,
     Refusal::Stray { vertex: Some(7) },
 ];
 

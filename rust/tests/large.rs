@@ -1,22 +1,32 @@
-//! The stack of up to 4,096 vertices: labels, both maps and repair, with answers known by hand.
+//! The stack of up to 4,096 vertices, its outer triangle in front and at other places: labels, both
+//! maps and repair, with answers known by hand.
 
 mod common;
 
 use common::*;
+use second::spheres::moved;
 use second::text::Job;
+
+/// Stacks with their outer triangle in front, behind it, amid the others and at the end: n, its
+/// place, and the triangles. The inner triangles are the same ones in the same order.
+fn stacks<const K: usize>(sizes: [usize; K]) -> Vec<(usize, usize, Vec<u16>)> {
+    let places = |n: usize| [0, 1, n - 2, 2 * n - 5].map(|outer| (n, outer));
+    let placed = |(n, outer)| (n, outer, moved(&stack(n), 0, outer));
+    sizes.into_iter().flat_map(places).map(placed).collect()
+}
 
 #[test]
 fn maps_there_and_back() {
-    for n in [3, 4, 1000, 4096] {
-        let triangles = stack(n);
-        assert_eq!(check(n, &triangles), Ok(()));
-        assert_eq!(labels(n, &triangles), Ok([0, 1, 2].repeat(2 * n - 5)));
+    for (n, outer, triangles) in stacks([3, 4, 1000, 4096]) {
+        assert_eq!(check(n, outer, &triangles), Ok(()));
+        let in_turn = [0, 1, 2].repeat(2 * n - 5);
+        assert_eq!(labels(n, outer, &triangles), Ok(in_turn));
         for seed in 0..3 {
             let weights = signed(2 * n - 5, seed);
             let coordinates = stack_coordinates(n, &weights);
-            let there = forward(n, &triangles, &weights);
+            let there = forward(n, outer, &triangles, &weights);
             assert_eq!(there.as_ref(), Ok(&coordinates));
-            assert_eq!(backward(n, &triangles, &coordinates), Ok(weights));
+            assert_eq!(backward(n, outer, &triangles, &coordinates), Ok(weights));
         }
     }
 }
@@ -31,10 +41,10 @@ fn zero_raised(n: usize) -> Vec<i64> {
 
 #[test]
 fn repair_of_zero_weights() {
-    for n in [4, 1000, 4096] {
+    for (n, outer, triangles) in stacks([4, 1000, 4096]) {
         let raised = zero_raised(n);
         let coordinates = stack_coordinates(n, &raised);
-        let answer = repair(n, &stack(n), &vec![0; 2 * n - 5]);
+        let answer = repair(n, outer, &triangles, &vec![0; 2 * n - 5]);
         assert_eq!(answer, (Ok(n as u64 - 1), raised, coordinates));
     }
 }
@@ -63,7 +73,7 @@ fn repair_of_signed_weights() {
     let triangles = stack(n);
     for seed in 0..5 {
         let weights = signed(2 * n - 5, seed);
-        let (answer, raised, coordinates) = repair(n, &triangles, &weights);
+        let (answer, raised, coordinates) = repair(n, 0, &triangles, &weights);
         assert_eq!(coordinates, stack_coordinates(n, &raised));
         let mut inner = triangles[3..].chunks_exact(3);
         assert!(inner.all(|t| area(&coordinates, t) > 0));

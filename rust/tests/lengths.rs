@@ -1,4 +1,4 @@
-//! Lengths for every n, and row 2 for each slice of each call.
+//! Lengths for every n, and row 2 for each slice of each call, before row 21.
 
 mod common;
 
@@ -48,7 +48,7 @@ fn lengths_below_3_and_at_the_end() {
 fn lengths_in_constants() {
     const SCRATCH: [i64; scratch_len(4)] = [0; scratch_len(4)];
     let mut scratch = SCRATCH;
-    assert_eq!(check(4, &TETRA, &mut scratch), Ok(()));
+    assert_eq!(check(4, 0, &TETRA, &mut scratch), Ok(()));
 }
 
 /// Each list of lengths with one of them changed: one less, one more, none at all.
@@ -77,6 +77,9 @@ const COORDINATES: usize = 12;
 const SCRATCH: usize = 40;
 const POINTS: usize = 8;
 
+/// An outer number that row 21 refuses, were it asked.
+const NO_PLACE: usize = 4;
+
 /// 24 words a vertex, as before C-20, are too many in every call on a mesh.
 #[test]
 fn row_2_of_the_scratch_before() {
@@ -84,11 +87,11 @@ fn row_2_of_the_scratch_before() {
     let (mut weights, mut coordinates) = (stale(WEIGHTS), stale(COORDINATES));
     let mut scratch = stale(24 * 4);
     let answers = [
-        check(4, &TETRA, &mut scratch),
-        labels(4, &TETRA, &mut labelled, &mut scratch),
-        forward(4, &TETRA, &weights, &mut coordinates, &mut scratch),
-        backward(4, &TETRA, &coordinates, &mut weights, &mut scratch),
-        repair(4, &TETRA, &mut weights, &mut coordinates, &mut scratch).map(|_| ()),
+        check(4, 0, &TETRA, &mut scratch),
+        labels(4, 0, &TETRA, &mut labelled, &mut scratch),
+        forward(4, 0, &TETRA, &weights, &mut coordinates, &mut scratch),
+        backward(4, 0, &TETRA, &coordinates, &mut weights, &mut scratch),
+        repair(4, 0, &TETRA, &mut weights, &mut coordinates, &mut scratch).map(|_| ()),
     ];
     assert_eq!(answers, [Err(Refusal::Length); 5]);
     assert_eq!(scratch, stale(24 * 4));
@@ -98,7 +101,8 @@ fn row_2_of_the_scratch_before() {
 fn row_2_of_check() {
     for [t, s] in changed([TRIANGLES, SCRATCH]) {
         let mut scratch = stale(s);
-        assert_eq!(check(4, &tetra(t), &mut scratch), Err(Refusal::Length));
+        let answer = check(4, NO_PLACE, &tetra(t), &mut scratch);
+        assert_eq!(answer, Err(Refusal::Length));
         assert_eq!(scratch, stale(s));
     }
 }
@@ -107,7 +111,7 @@ fn row_2_of_check() {
 fn row_2_of_labels() {
     for [t, l, s] in changed([TRIANGLES, LABELS, SCRATCH]) {
         let (mut written, mut scratch) = (stale_bytes(l), stale(s));
-        let answer = labels(4, &tetra(t), &mut written, &mut scratch);
+        let answer = labels(4, NO_PLACE, &tetra(t), &mut written, &mut scratch);
         assert_eq!(answer, Err(Refusal::Length));
         assert_eq!((written, scratch), (stale_bytes(l), stale(s)));
     }
@@ -117,10 +121,11 @@ fn row_2_of_labels() {
 fn row_2_of_the_maps() {
     for [t, w, b, s] in changed([TRIANGLES, WEIGHTS, COORDINATES, SCRATCH]) {
         let (mut weights, mut coordinates, mut scratch) = (stale(w), stale(b), stale(s));
+        let (t, outer) = (tetra(t), NO_PLACE);
         let answers = [
-            forward(4, &tetra(t), &weights, &mut coordinates, &mut scratch),
-            backward(4, &tetra(t), &coordinates, &mut weights, &mut scratch),
-            repair(4, &tetra(t), &mut weights, &mut coordinates, &mut scratch).map(|_| ()),
+            forward(4, outer, &t, &weights, &mut coordinates, &mut scratch),
+            backward(4, outer, &t, &coordinates, &mut weights, &mut scratch),
+            repair(4, outer, &t, &mut weights, &mut coordinates, &mut scratch).map(|_| ()),
         ];
         assert_eq!(answers, [Err(Refusal::Length); 3]);
         assert_eq!(

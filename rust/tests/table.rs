@@ -5,7 +5,7 @@ mod common;
 
 use common::*;
 use packmap::Refusal;
-use second::shells::{EXAMPLE, LISTING, ROWS, TETRA};
+use second::shells::{EXAMPLE, LISTING, PAIR, ROWS, TETRA};
 use second::text::Job;
 
 /// Coordinates on the tetra with v1 and vertex 3 as given.
@@ -20,11 +20,13 @@ const STOPPED: [i64; 3] = [1, -1_073_741_821, 1];
 fn row_1_vertex_count() {
     for n in [0, 1, 2, 4097, 65_536, usize::MAX] {
         let refused = Refusal::VertexCount;
-        assert_eq!(check(n, &TETRA), Err(refused));
-        assert_eq!(labels(n, &TETRA), Err(refused));
-        assert_eq!(forward(n, &TETRA, &[1; 3]), Err(refused));
-        assert_eq!(backward(n, &TETRA, &[0; 12]), Err(refused));
-        assert_eq!(repair(n, &TETRA, &[1; 3]).0, Err(refused));
+        for outer in [0, usize::MAX] {
+            assert_eq!(check(n, outer, &TETRA), Err(refused));
+            assert_eq!(labels(n, outer, &TETRA), Err(refused));
+            assert_eq!(forward(n, outer, &TETRA, &[1; 3]), Err(refused));
+            assert_eq!(backward(n, outer, &TETRA, &[0; 12]), Err(refused));
+            assert_eq!(repair(n, outer, &TETRA, &[1; 3]).0, Err(refused));
+        }
         assert_eq!(snap_points(n, &[0.5; 8], 0), Err(refused));
     }
     for n in [0, 1, 2, 257, 65_535] {
@@ -37,12 +39,40 @@ fn row_1_vertex_count() {
 #[test]
 fn row_2_length() {
     let refused = Refusal::Length;
-    assert_eq!(check(4, &TETRA[..9]), Err(refused));
-    assert_eq!(labels(4, &TETRA[..9]), Err(refused));
-    assert_eq!(forward(4, &TETRA, &[1; 2]), Err(refused));
-    assert_eq!(backward(4, &TETRA, &[0; 11]), Err(refused));
-    assert_eq!(repair(4, &TETRA, &[1; 2]).0, Err(refused));
+    for outer in [0, 3, 4, usize::MAX] {
+        assert_eq!(check(4, outer, &TETRA[..9]), Err(refused));
+        assert_eq!(labels(4, outer, &TETRA[..9]), Err(refused));
+        assert_eq!(forward(4, outer, &TETRA, &[1; 2]), Err(refused));
+        assert_eq!(backward(4, outer, &TETRA, &[0; 11]), Err(refused));
+        assert_eq!(repair(4, outer, &TETRA, &[1; 2]).0, Err(refused));
+    }
     assert_eq!(snap_points(4, &[0.5; 7], 0), Err(refused));
+}
+
+/// The calls on a mesh, all of which refuse it so. Rows of weights and coordinates come after those
+/// of the mesh.
+fn all_refuse(n: usize, outer: usize, triangles: &[u16], refused: Refusal) {
+    let heavy = vec![i64::MIN; 2 * n - 5];
+    let far = vec![i64::MAX; 3 * n];
+    assert_eq!(check(n, outer, triangles), Err(refused));
+    assert_eq!(labels(n, outer, triangles), Err(refused));
+    assert_eq!(forward(n, outer, triangles, &heavy), Err(refused));
+    assert_eq!(backward(n, outer, triangles, &far), Err(refused));
+    assert_eq!(repair(n, outer, triangles, &heavy).0, Err(refused));
+}
+
+/// Asked before the rows of the mesh.
+#[test]
+fn row_21_outer_number() {
+    let spheres: [(usize, &[u16]); 2] = [(3, &PAIR), (4, &TETRA)];
+    let meshes = spheres.into_iter().chain(ROWS.map(|(_, n, t)| (n, t)));
+    for (n, triangles) in meshes {
+        let third = usize::MAX / 3 + 1;
+        for outer in [2 * n - 4, 2 * n - 3, 1 << 16, 1 << 32, third, usize::MAX] {
+            all_refuse(n, outer, triangles, Refusal::OuterNumber);
+        }
+    }
+    assert_eq!(check(4, 3, &TETRA), Ok(()));
 }
 
 #[test]
@@ -58,13 +88,9 @@ fn rows_3_to_8_and_25_meshes() {
     ];
     for ((row, n, triangles), refused) in ROWS.into_iter().zip(refusals) {
         assert_eq!(refused.number(), row.number);
-        // Rows of weights and coordinates come after those of the mesh.
-        let heavy = vec![i64::MIN; 2 * n - 5];
-        assert_eq!(check(n, triangles), Err(refused));
-        assert_eq!(labels(n, triangles), Err(refused));
-        assert_eq!(forward(n, triangles, &heavy), Err(refused));
-        assert_eq!(backward(n, triangles, &vec![i64::MAX; 3 * n]), Err(refused));
-        assert_eq!(repair(n, triangles, &heavy).0, Err(refused));
+        for outer in 0..2 * n - 4 {
+            all_refuse(n, outer, triangles, refused);
+        }
         let text = Job::write(n, triangles, &vec![-2_147_483_648; 2 * n - 5]);
         let told = match refused {
             Refusal::Ring { .. } => Refusal::Ring { vertex: None },
@@ -79,17 +105,17 @@ fn rows_3_to_8_and_25_meshes() {
 fn row_9_weights() {
     let refused = Refusal::Weights;
     for weights in [[L, 1, 0], [-L, 0, -1], [0, i64::MIN, 0], [i64::MAX; 3]] {
-        assert_eq!(forward(4, &TETRA, &weights), Err(refused));
-        assert_eq!(repair(4, &TETRA, &weights).0, Err(refused));
+        assert_eq!(forward(4, 0, &TETRA, &weights), Err(refused));
+        assert_eq!(repair(4, 0, &TETRA, &weights).0, Err(refused));
     }
     let text = Job::write(4, &TETRA, &[L, 1, 0]);
     assert_eq!(job(&text, 0), Err(refused));
     // On the tetra vertex 3 is at (w2, w1, w3): here the weights are L, 1, -1.
     let coordinates = placed(L, [0, L, 0], [1, L, -1]);
-    assert_eq!(backward(4, &TETRA, &coordinates), Err(refused));
+    assert_eq!(backward(4, 0, &TETRA, &coordinates), Err(refused));
     let limit = tetra_coordinates([L, 0, 0]);
-    assert_eq!(forward(4, &TETRA, &[L, 0, 0]), Ok(limit.clone()));
-    assert_eq!(backward(4, &TETRA, &limit), Ok(vec![L, 0, 0]));
+    assert_eq!(forward(4, 0, &TETRA, &[L, 0, 0]), Ok(limit.clone()));
+    assert_eq!(backward(4, 0, &TETRA, &limit), Ok(vec![L, 0, 0]));
 }
 
 #[test]
@@ -106,7 +132,7 @@ fn rows_10_to_12_coordinates() {
         (Refusal::Sum, placed(L, [0, L, 0], [L, L, L])),
     ];
     for (refused, coordinates) in cases {
-        assert_eq!(backward(4, &TETRA, &coordinates), Err(refused));
+        assert_eq!(backward(4, 0, &TETRA, &coordinates), Err(refused));
     }
 }
 
@@ -114,7 +140,7 @@ fn rows_10_to_12_coordinates() {
 fn row_13_raise() {
     let none = Refusal::Raise { raises: Some(0) };
     let left = (Err(none), STOPPED.to_vec(), tetra_coordinates(STOPPED));
-    assert_eq!(repair(4, &TETRA, &STOPPED), left);
+    assert_eq!(repair(4, 0, &TETRA, &STOPPED), left);
     let text = Job::write(4, &TETRA, &STOPPED);
     let untold = Refusal::Raise { raises: None };
     assert_eq!(job(&text, 0), Err(untold));
@@ -128,7 +154,7 @@ fn row_13_after_a_raise() {
     let one = Refusal::Raise { raises: Some(1) };
     let after = [1, 0, L - 1];
     let left = (Err(one), after.to_vec(), tetra_coordinates(after));
-    assert_eq!(repair(4, &TETRA, &[-1, 0, L - 1]), left);
+    assert_eq!(repair(4, 0, &TETRA, &[-1, 0, L - 1]), left);
 }
 
 #[test]

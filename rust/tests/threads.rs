@@ -3,6 +3,7 @@
 mod common;
 
 use common::*;
+use second::spheres::moved;
 use second::text::Job;
 use std::thread;
 
@@ -24,13 +25,13 @@ fn make(n: usize, triangles: &[u16], seed: u64) -> Made {
         .map(|&w| w as f64 / 7.0)
         .collect();
     let text = Job::write(n, triangles, &weights);
-    let coordinates = forward(n, triangles, &weights).unwrap();
+    let coordinates = forward(n, 0, triangles, &weights).unwrap();
     assert_eq!(coordinates, stack_coordinates(n, &weights));
     Made {
-        labels: labels(n, triangles).unwrap(),
-        weights: backward(n, triangles, &coordinates).unwrap(),
+        labels: labels(n, 0, triangles).unwrap(),
+        weights: backward(n, 0, triangles, &coordinates).unwrap(),
         coordinates,
-        repaired: repair(n, triangles, &weights),
+        repaired: repair(n, 0, triangles, &weights),
         points: snap_points(n, &shares, 24).unwrap(),
         listing: job(&text, packmap::JOB_BYTES).unwrap(),
     }
@@ -64,16 +65,16 @@ fn on_stack(bytes: usize, run: impl FnOnce() + Send + 'static) {
 
 #[test]
 fn within_the_stack() {
-    let n = 4096;
-    let (triangles, shares) = (stack(n), vec![0.3; 2 * n]);
+    let (n, outer) = (4096, 4094);
+    let (triangles, shares) = (moved(&stack(n), 0, outer), vec![0.3; 2 * n]);
     let (mut weights, mut labels) = (signed(2 * n - 5, 1), stale_bytes(6 * n - 15));
     let (mut b, mut scratch) = (stale(3 * n), stale(10 * n));
     on_stack(packmap::STACK, move || {
-        packmap::check(n, &triangles, &mut scratch).unwrap();
-        packmap::labels(n, &triangles, &mut labels, &mut scratch).unwrap();
-        packmap::forward(n, &triangles, &weights, &mut b, &mut scratch).unwrap();
-        packmap::backward(n, &triangles, &b, &mut weights, &mut scratch).unwrap();
-        packmap::repair(n, &triangles, &mut weights, &mut b, &mut scratch).unwrap();
+        packmap::check(n, outer, &triangles, &mut scratch).unwrap();
+        packmap::labels(n, outer, &triangles, &mut labels, &mut scratch).unwrap();
+        packmap::forward(n, outer, &triangles, &weights, &mut b, &mut scratch).unwrap();
+        packmap::backward(n, outer, &triangles, &b, &mut weights, &mut scratch).unwrap();
+        packmap::repair(n, outer, &triangles, &mut weights, &mut b, &mut scratch).unwrap();
         packmap::snap_points(n, &shares, 24, &mut b).unwrap();
     });
     let text = Job::write(256, &stack(256), &signed(507, 1));

@@ -1,10 +1,152 @@
-//! The second program's host call for C, under a name of its own.
+//! The second program's calls on a mesh and its host call for C, under names of
+//! their own.
 
-use crate::{text, Work};
+use crate::{labels, maps, mesh, repair, text, Answer, Extra, Work};
 use std::cell::RefCell;
 use std::slice::{from_raw_parts, from_raw_parts_mut};
 
 thread_local!(static WORK: RefCell<Work> = RefCell::default());
+
+/// 0 or the number of the refusal; what the answer carries goes to `carried`.
+fn told(answer: Answer<Option<usize>>, carried: &mut u64) -> u64 {
+    let (number, told) = match answer {
+        Ok(count) => (0, count),
+        Err(refusal) => match refusal.extra {
+            Extra::Vertex(told) | Extra::Count(told) => (refusal.number, Some(told)),
+            _ => (refusal.number, None),
+        },
+    };
+    if let Some(told) = told {
+        *carried = told as u64;
+    }
+    number.into()
+}
+
+/// As `packmap_mesh_check`.
+///
+/// # Safety
+/// Every pointer reaches as many items as told, and what is written overlaps
+/// nothing else.
+#[no_mangle]
+pub unsafe extern "C" fn second_mesh_check(
+    n: usize,
+    outer: usize,
+    triangles: *const u16,
+    triangles_len: usize,
+    scratch: *mut i64,
+    scratch_len: usize,
+    carried: &mut u64,
+) -> u64 {
+    let triangles = from_raw_parts(triangles, triangles_len);
+    let scratch = from_raw_parts_mut(scratch, scratch_len);
+    let answer = WORK.with_borrow_mut(|work| mesh::check(work, n, outer, triangles, scratch));
+    told(answer.map(|()| None), carried)
+}
+
+/// As `packmap_labels`.
+///
+/// # Safety
+/// As of `second_mesh_check`.
+#[no_mangle]
+pub unsafe extern "C" fn second_labels(
+    n: usize,
+    outer: usize,
+    triangles: *const u16,
+    triangles_len: usize,
+    to: *mut u8,
+    to_len: usize,
+    scratch: *mut i64,
+    scratch_len: usize,
+    carried: &mut u64,
+) -> u64 {
+    let triangles = from_raw_parts(triangles, triangles_len);
+    let to = from_raw_parts_mut(to, to_len);
+    let scratch = from_raw_parts_mut(scratch, scratch_len);
+    let answer =
+        WORK.with_borrow_mut(|work| labels::labels(work, n, outer, triangles, to, scratch));
+    told(answer.map(|()| None), carried)
+}
+
+/// As `packmap_forward`.
+///
+/// # Safety
+/// As of `second_mesh_check`.
+#[no_mangle]
+pub unsafe extern "C" fn second_forward(
+    n: usize,
+    outer: usize,
+    triangles: *const u16,
+    triangles_len: usize,
+    weights: *const i64,
+    weights_len: usize,
+    b: *mut i64,
+    b_len: usize,
+    scratch: *mut i64,
+    scratch_len: usize,
+    carried: &mut u64,
+) -> u64 {
+    let triangles = from_raw_parts(triangles, triangles_len);
+    let weights = from_raw_parts(weights, weights_len);
+    let b = from_raw_parts_mut(b, b_len);
+    let scratch = from_raw_parts_mut(scratch, scratch_len);
+    let answer =
+        WORK.with_borrow_mut(|work| maps::forward(work, n, outer, triangles, weights, b, scratch));
+    told(answer.map(|()| None), carried)
+}
+
+/// As `packmap_backward`.
+///
+/// # Safety
+/// As of `second_mesh_check`.
+#[no_mangle]
+pub unsafe extern "C" fn second_backward(
+    n: usize,
+    outer: usize,
+    triangles: *const u16,
+    triangles_len: usize,
+    b: *const i64,
+    b_len: usize,
+    weights: *mut i64,
+    weights_len: usize,
+    scratch: *mut i64,
+    scratch_len: usize,
+    carried: &mut u64,
+) -> u64 {
+    let triangles = from_raw_parts(triangles, triangles_len);
+    let b = from_raw_parts(b, b_len);
+    let weights = from_raw_parts_mut(weights, weights_len);
+    let scratch = from_raw_parts_mut(scratch, scratch_len);
+    let answer =
+        WORK.with_borrow_mut(|work| maps::backward(work, n, outer, triangles, b, weights, scratch));
+    told(answer.map(|()| None), carried)
+}
+
+/// As `packmap_repair`.
+///
+/// # Safety
+/// As of `second_mesh_check`.
+#[no_mangle]
+pub unsafe extern "C" fn second_repair(
+    n: usize,
+    outer: usize,
+    triangles: *const u16,
+    triangles_len: usize,
+    weights: *mut i64,
+    weights_len: usize,
+    b: *mut i64,
+    b_len: usize,
+    scratch: *mut i64,
+    scratch_len: usize,
+    carried: &mut u64,
+) -> u64 {
+    let triangles = from_raw_parts(triangles, triangles_len);
+    let weights = from_raw_parts_mut(weights, weights_len);
+    let b = from_raw_parts_mut(b, b_len);
+    let scratch = from_raw_parts_mut(scratch, scratch_len);
+    let answer =
+        WORK.with_borrow_mut(|work| repair::repair(work, n, outer, triangles, weights, b, scratch));
+    told(answer.map(Some), carried)
+}
 
 /// As `packmap_job`.
 ///

@@ -1,5 +1,5 @@
-//! Damaged meshes, weights, coordinates, shares and texts. Each comes with the
-//! refusal that it must meet, known from the way it was damaged.
+//! Damaged meshes, outer numbers, weights, coordinates, shares and texts. Each
+//! comes with the refusal that it must meet, known from the way it was damaged.
 
 use crate::spheres::{any_weights, renumbered, scramble, sphere, torus, weights, Rng};
 use crate::text::Job;
@@ -185,6 +185,26 @@ fn pieces(rng: &mut Rng, n: usize) -> BadMesh {
         triangles: scramble(rng, n, &list),
         refusal: Refusal::plain(8),
     }
+}
+
+/// An outer number that row 21 refuses for n vertices: the first two that are no
+/// places, large ones of which a multiple comes round to a place if it overflows,
+/// and any.
+pub fn no_place(rng: &mut Rng, n: usize) -> usize {
+    let (first, third) = (2 * n - 4, usize::MAX / 3 + 1);
+    [
+        first,
+        first + 1,
+        first + rng.below(9 * n),
+        1 << 16,
+        1 << 32,
+        1 << 63,
+        third,
+        2 * third,
+        usize::MAX - 1,
+        usize::MAX,
+        first + rng.below(usize::MAX - first),
+    ][rng.below(11)]
 }
 
 /// Weights that row 9 refuses.

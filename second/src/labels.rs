@@ -115,6 +115,7 @@ impl Labels {
 pub fn labels(
     work: &mut Work,
     n: usize,
+    outer: usize,
     triangles: &[u16],
     labels: &mut [u8],
     scratch: &mut [i64],
@@ -126,7 +127,7 @@ pub fn labels(
         (scratch.len(), sizes.scratch),
     ])?;
     scratch.fill(0);
-    work.open(n, triangles)?;
+    work.open(n, outer, triangles)?;
     for t in work.mesh.inner() {
         let to = 3 * slot(t);
         labels[to..to + 3].copy_from_slice(&work.labels.at[3 * t..3 * t + 3]);

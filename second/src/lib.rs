@@ -64,8 +64,8 @@ impl Refusal {
 }
 
 /// The numbers of the table.
-pub const NUMBERS: [u8; 20] = [
-    1, 2, 3, 4, 5, 6, 7, 8, 9, 10, 11, 12, 13, 14, 15, 16, 17, 18, 19, 25,
+pub const NUMBERS: [u8; 21] = [
+    1, 2, 3, 4, 5, 6, 7, 8, 9, 10, 11, 12, 13, 14, 15, 16, 17, 18, 19, 21, 25,
 ];
 
 /// A call's answer.
@@ -136,8 +136,8 @@ pub struct Work {
 impl Work {
     /// The mesh check and the labels that the maps go by. That the labels are
     /// our own peeling's is decided here and nowhere else.
-    pub fn open(&mut self, n: usize, triangles: &[u16]) -> Answer<()> {
-        self.mesh.load(n, triangles)?;
+    pub fn open(&mut self, n: usize, outer: usize, triangles: &[u16]) -> Answer<()> {
+        self.mesh.load(n, outer, triangles)?;
         self.labels.peel(&self.mesh);
         Ok(())
     }

@@ -157,6 +157,7 @@ fn weight(mesh: &Mesh, labels: &Labels, b: &[i64], t: usize) -> i64 {
 pub fn forward(
     work: &mut Work,
     n: usize,
+    outer: usize,
     triangles: &[u16],
     weights: &[i64],
     coordinates: &mut [i64],
@@ -170,7 +171,7 @@ pub fn forward(
         (scratch.len(), sizes.scratch),
     ])?;
     scratch.fill(0);
-    work.open(n, triangles)?;
+    work.open(n, outer, triangles)?;
     weigh(weights)?;
     work.walks.build(&work.mesh, &work.labels);
     work.walks.forward(&work.mesh, weights, coordinates);
@@ -181,6 +182,7 @@ pub fn forward(
 pub fn backward(
     work: &mut Work,
     n: usize,
+    outer: usize,
     triangles: &[u16],
     coordinates: &[i64],
     weights: &mut [i64],
@@ -194,7 +196,7 @@ pub fn backward(
         (scratch.len(), sizes.scratch),
     ])?;
     scratch.fill(0);
-    work.open(n, triangles)?;
+    work.open(n, outer, triangles)?;
     placed(&work.mesh, coordinates)?;
     let Work {
         mesh,

@@ -1,13 +1,13 @@
 //! The mesh check, and the accepted mesh as darts.
 //!
 //! Dart d = 3t + i runs from corner i of triangle t to the corner after it, so
-//! one number names a corner, the dart leaving it, and a side of t. Which
-//! triangle is the outer one, and where the others keep their weights and
-//! labels, is decided here and nowhere else.
+//! one number names a corner, the dart leaving it, and a side of t. Here, and
+//! nowhere else, the outer triangle is moved to the front: the others follow in
+//! listed order, and weights and labels go by their places then.
 
 use crate::{exact, Answer, Refusal, Sizes, Work};
 
-/// Place of the outer triangle.
+/// Place of the outer triangle once it is in front.
 pub const OUTER: usize = 0;
 
 /// The outer triangle's darts: v0 to v2, v2 to v1, v1 to v0.
@@ -86,8 +86,13 @@ impl Mesh {
         &self.leaving[self.first[v] as usize..self.first[v + 1] as usize]
     }
 
-    /// Rows 3 to 8, and 25 beside 7, on triangles of exact length; linear time.
-    pub fn load(&mut self, n: usize, triangles: &[u16]) -> Answer<()> {
+    /// Rows 21 and 3 to 8, and 25 beside 7, on triangles of exact length; linear
+    /// time. The triangles have to be copied in any case, so that moving the
+    /// outer one to the front takes no time of its own.
+    pub fn load(&mut self, n: usize, outer: usize, triangles: &[u16]) -> Answer<()> {
+        if outer >= triangles.len() / 3 {
+            return Err(Refusal::plain(21));
+        }
         if triangles.iter().copied().max() >= Some(n as u16) {
             return Err(Refusal::plain(3));
         }
@@ -97,7 +102,11 @@ impl Mesh {
         }
         self.n = n;
         self.corner.clear();
-        self.corner.extend_from_slice(triangles);
+        let (before, rest) = triangles.split_at(3 * outer);
+        let (first, after) = rest.split_at(3);
+        for part in [first, before, after] {
+            self.corner.extend_from_slice(part);
+        }
         self.group();
         self.pair()?;
         self.pieces()
@@ -208,12 +217,18 @@ impl Mesh {
 }
 
 /// The mesh check as a call.
-pub fn check(work: &mut Work, n: usize, triangles: &[u16], scratch: &mut [i64]) -> Answer<()> {
+pub fn check(
+    work: &mut Work,
+    n: usize,
+    outer: usize,
+    triangles: &[u16],
+    scratch: &mut [i64],
+) -> Answer<()> {
     let sizes = Sizes::of(n)?;
     exact(&[
         (triangles.len(), sizes.triangles),
         (scratch.len(), sizes.scratch),
     ])?;
     scratch.fill(0);
-    work.mesh.load(n, triangles)
+    work.mesh.load(n, outer, triangles)
 }

@@ -240,6 +240,7 @@ impl Raises {
 pub fn repair(
     work: &mut Work,
     n: usize,
+    outer: usize,
     triangles: &[u16],
     weights: &mut [i64],
     coordinates: &mut [i64],
@@ -253,7 +254,7 @@ pub fn repair(
         (scratch.len(), sizes.scratch),
     ])?;
     scratch.fill(0);
-    work.open(n, triangles)?;
+    work.open(n, outer, triangles)?;
     let mut heft = weigh(weights)?;
     let Work {
         mesh,

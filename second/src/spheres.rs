@@ -1,7 +1,7 @@
 //! Random spheres (and tori for damage): a surface grown by putting vertices
 //! into triangles and by turning sides within their two triangles, then
 //! renumbered, with each triple rotated and the list shuffled. Weight lists of
-//! several kinds go with them.
+//! several kinds and places for the outer triangle go with them.
 
 use crate::LIMIT;
 
@@ -217,6 +217,28 @@ pub fn torus(rng: &mut Rng, n: usize) -> Vec<u16> {
     surface.grow(rng, n, 0, 1);
     surface.mix(rng, n);
     surface.corner
+}
+
+/// The list with a triangle moved to another place; the others keep their order.
+pub fn moved(triangles: &[u16], from: usize, to: usize) -> Vec<u16> {
+    let mut list: Vec<&[u16]> = triangles.chunks(3).collect();
+    let one = list.remove(from);
+    list.insert(to, one);
+    list.concat()
+}
+
+/// The triangle at a place.
+pub fn triangle(triangles: &[u16], place: usize) -> [u16; 3] {
+    [0, 1, 2].map(|i| triangles[3 * place + i])
+}
+
+/// A place for the outer triangle of n vertices: the first, the last, or any.
+pub fn place(rng: &mut Rng, n: usize) -> usize {
+    match rng.below(4) {
+        0 => 0,
+        1 => 2 * n - 5,
+        _ => rng.below(2 * n - 4),
+    }
 }
 
 /// Kinds of weight lists that row 9 lets through.

@@ -8,6 +8,8 @@ use crate::{Answer, Extra, Refusal, Sizes, Work, TEXT_VERTICES};
 pub const MOST_BYTES: usize = 16_384;
 /// Fixed bytes that open a job text and a listing.
 pub const OPENING: &[u8] = b"pack-map";
+/// Place of a text's outer triangle.
+const OUTER: usize = 0;
 
 /// A job text and the place of its next line.
 pub struct Reader<'a> {
@@ -189,6 +191,7 @@ fn list(work: &mut Work, job: &mut Job, text: &[u8], listing: &mut [u8]) -> Answ
     let raises = repair(
         work,
         job.n,
+        OUTER,
         &job.triangles,
         &mut job.weights,
         &mut job.coordinates,

@@ -81,16 +81,16 @@ tetraAreas ws = map (area tetra (labels 4 tetra) (forward 4 tetra (labels 4 tetr
 -- ---- P1 to P11
 
 abbrev pub P1 : Type 0
-P1 = labelsCall 3 pair (stale 3) (lentScratch 3) ≡ record { answer = done tt; labels = 0 ∷ 1 ∷ 2 ∷ []; scratch = clearedScratch 3 }
+P1 = labelsCall 3 0 pair (stale 3) (lentScratch 3) ≡ record { answer = done tt; labels = 0 ∷ 1 ∷ 2 ∷ []; scratch = clearedScratch 3 }
 
 abbrev pub P2 : Type 0
 P2 =
-    labelsCall 4 tetra (stale 9) (lentScratch 4)
+    labelsCall 4 0 tetra (stale 9) (lentScratch 4)
     ≡ record { answer = done tt; labels = 0 ∷ 1 ∷ 2 ∷ 0 ∷ 1 ∷ 2 ∷ 0 ∷ 1 ∷ 2 ∷ []; scratch = clearedScratch 4 }
 
 abbrev pub P3 : Type 0
 P3 =
-    labelsCall 5 five (stale 15) (lentScratch 5)
+    labelsCall 5 0 five (stale 15) (lentScratch 5)
     ≡ record {
       answer = done tt;
       labels = 0 ∷ 1 ∷ 2 ∷ 0 ∷ 1 ∷ 2 ∷ 0 ∷ 1 ∷ 2 ∷ 1 ∷ 2 ∷ 0 ∷ 2 ∷ 0 ∷ 1 ∷ [];
@@ -100,7 +100,7 @@ P3 =
 -- The outer vertices stand at their corners, N = 5.
 abbrev pub P4 : Type 0
 P4 =
-    forwardCall 5 five (replicate 5 (pos 1)) (lent 15) (lentScratch 5)
+    forwardCall 5 0 five (replicate 5 (pos 1)) (lent 15) (lentScratch 5)
     ≡ record {
       answer = done tt;
       coordinates =
@@ -111,16 +111,16 @@ P4 =
 
 abbrev pub P5 : Type 0
 P5 =
-    (forwardCall 4 tetra (pos 5 ∷ pos 3 ∷ pos 2 ∷ []) (lent 12) (lentScratch 4)
+    (forwardCall 4 0 tetra (pos 5 ∷ pos 3 ∷ pos 2 ∷ []) (lent 12) (lentScratch 4)
     ≡ record { answer = done tt; coordinates = tetraAt (pos 10) (pos 5) (pos 3) (pos 2); scratch = clearedScratch 4 })
-    × (backwardCall 4 tetra (tetraAt (pos 10) (pos 5) (pos 3) (pos 2)) (lent 3) (lentScratch 4)
+    × (backwardCall 4 0 tetra (tetraAt (pos 10) (pos 5) (pos 3) (pos 2)) (lent 3) (lentScratch 4)
     ≡ record { answer = done tt; weights = pos 5 ∷ pos 3 ∷ pos 2 ∷ []; scratch = clearedScratch 4 })
 
 abbrev pub P6 : Type 0
 P6 =
     (tetraAreas (pos 5 ∷ pos 3 ∷ minus 1 ∷ []) ≡ pos 35 ∷ pos 21 ∷ minus 7 ∷ [])
     × (raise tetra (labels 4 tetra) (tetraAt (pos 7) (pos 5) (pos 3) (minus 1)) 3 ≡ pos 2)
-    × (repairCall 4 tetra (pos 5 ∷ pos 3 ∷ minus 1 ∷ []) (lent 12) (lentScratch 4)
+    × (repairCall 4 0 tetra (pos 5 ∷ pos 3 ∷ minus 1 ∷ []) (lent 12) (lentScratch 4)
     ≡ record {
       answer = done 1;
       weights = pos 5 ∷ pos 3 ∷ pos 1 ∷ [];
@@ -130,7 +130,7 @@ P6 =
 
 abbrev pub P7 : Type 0
 P7 =
-    repairCall 4 tetra (zeros 3) (lent 12) (lentScratch 4)
+    repairCall 4 0 tetra (zeros 3) (lent 12) (lentScratch 4)
     ≡ record {
       answer = done 3;
       weights = replicate 3 (pos 1);
@@ -142,7 +142,7 @@ abbrev pub P8 : Type 0
 P8 =
     (total (replicate 3 (minus 1)) ≡ minus 3)
     × (tetraAreas (replicate 3 (minus 1)) ≡ replicate 3 (pos 3))
-    × (repairCall 4 tetra (replicate 3 (minus 1)) (lent 12) (lentScratch 4)
+    × (repairCall 4 0 tetra (replicate 3 (minus 1)) (lent 12) (lentScratch 4)
     ≡ record {
       answer = done 0;
       weights = replicate 3 (minus 1);

@@ -233,12 +233,12 @@ toldWithText (stoppedAfter count) = numbered 13
 toldWithText (shareOutside share) = numbered 16
 toldWithText (lineBroken line) = lineBroken line
 
--- the repair of a job, over buffers of its own
+-- the repair of a job, over buffers of its own; a text's first triangle is the outer one
 unfoldable pub repairJob : Job → Repaired
 unfolding repairCall
 repairJob job =
     let n = job .n in
-    repairCall n (job .triangles) (job .weights) (replicate (coordinatesLength n) (pos 0)) (replicate (scratchLength n) (pos 0))
+    repairCall n 0 (job .triangles) (job .weights) (replicate (coordinatesLength n) (pos 0)) (replicate (scratchLength n) (pos 0))
 
 -- the listing of a job text, or its refusal: the text's own, then the mesh's, 9 and 13
 unfoldable pub runJob : List ℕ → Answer (List ℕ)

@@ -31,12 +31,12 @@ abbrev pub sixLabels : List ℕ
 sixLabels = 0 ∷ 1 ∷ 2 ∷ 0 ∷ 1 ∷ 2 ∷ 0 ∷ 1 ∷ 2 ∷ 2 ∷ 0 ∷ 1 ∷ 2 ∷ 0 ∷ 1 ∷ 0 ∷ 1 ∷ 2 ∷ 0 ∷ 1 ∷ 2 ∷ []
 
 abbrev SmallestFirst : Type 0
-SmallestFirst = labelsCall 6 six (stale 21) (lentScratch 6) ≡ record { answer = done tt; labels = sixLabels; scratch = clearedScratch 6 }
+SmallestFirst = labelsCall 6 0 six (stale 21) (lentScratch 6) ≡ record { answer = done tt; labels = sixLabels; scratch = clearedScratch 6 }
 
 -- v0 = 1 and v1 = 0 are smaller than v2 = 2, and both stay: 2 at v2, 0 at v0, 1 at v1.
 abbrev EndsStay : Type 0
 EndsStay =
-    labelsCall 3 (1 ∷ 2 ∷ 0 ∷ 2 ∷ 1 ∷ 0 ∷ []) (stale 3) (lentScratch 3)
+    labelsCall 3 0 (1 ∷ 2 ∷ 0 ∷ 2 ∷ 1 ∷ 0 ∷ []) (stale 3) (lentScratch 3)
     ≡ record { answer = done tt; labels = 2 ∷ 0 ∷ 1 ∷ []; scratch = clearedScratch 3 }
 
 -- ---- a shell with v0 = 5, v1 = 1 and v2 = 3: a long frontier
@@ -56,7 +56,7 @@ chain =
 
 abbrev LongFrontier : Type 0
 LongFrontier =
-    labelsCall 6 chain (stale 21) (lentScratch 6)
+    labelsCall 6 0 chain (stale 21) (lentScratch 6)
     ≡ record {
       answer = done tt;
       labels = 0 ∷ 1 ∷ 2 ∷ 0 ∷ 1 ∷ 2 ∷ 0 ∷ 1 ∷ 2 ∷ 0 ∷ 1 ∷ 2 ∷ 2 ∷ 0 ∷ 1 ∷ 2 ∷ 0 ∷ 1 ∷ 2 ∷ 0 ∷ 1 ∷ [];
@@ -122,7 +122,7 @@ abbrev pub mixedLabels : List ℕ
 mixedLabels = 1 ∷ 2 ∷ 0 ∷ 0 ∷ 1 ∷ 2 ∷ 2 ∷ 0 ∷ 1 ∷ 0 ∷ 1 ∷ 2 ∷ 1 ∷ 2 ∷ 0 ∷ 0 ∷ 1 ∷ 2 ∷ 2 ∷ 0 ∷ 1 ∷ []
 
 abbrev Mixed : Type 0
-Mixed = labelsCall 6 mixed (stale 21) (lentScratch 6) ≡ record { answer = done tt; labels = mixedLabels; scratch = clearedScratch 6 }
+Mixed = labelsCall 6 0 mixed (stale 21) (lentScratch 6) ≡ record { answer = done tt; labels = mixedLabels; scratch = clearedScratch 6 }
 
 -- ---- colours
 

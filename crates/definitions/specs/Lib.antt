@@ -22,4 +22,5 @@ pub mod DirectionCases
 pub mod RepairCases
 pub mod PointCases
 pub mod RefusalCases
+pub mod OuterCases
 pub mod TextCases

@@ -46,7 +46,7 @@ placed N x0 y0 z0 x2 y2 z2 x5 y5 z5 =
 -- Vertex 2: b0 over 2-3 is 4 + 32, b1 over 2-4 is 1 + 2 + 8 + 16. Vertex 5: b0 over 2-5 and 2-3 is 2 + 16 + 4 + 32, b1 over 4-5 is 1.
 abbrev PowersOf2 : Type 0
 PowersOf2 =
-    forwardCall 6 mixed (pos 1 ∷ pos 2 ∷ pos 4 ∷ pos 8 ∷ pos 16 ∷ pos 32 ∷ pos 64 ∷ []) (lent 18) (lentScratch 6)
+    forwardCall 6 0 mixed (pos 1 ∷ pos 2 ∷ pos 4 ∷ pos 8 ∷ pos 16 ∷ pos 32 ∷ pos 64 ∷ []) (lent 18) (lentScratch 6)
     ≡ record {
       answer = done tt;
       coordinates = placed (pos 127) (pos 4) (pos 3) (pos 120) (pos 36) (pos 27) (pos 64) (pos 54) (pos 1) (pos 72);
@@ -58,7 +58,7 @@ PowersOf2 =
 -- vertex 2 has 4 + 8 + 16 and 2 + 1, vertex 4 has 8 and 4 + 2 + 1.
 abbrev LongPath : Type 0
 LongPath =
-    forwardCall 6 chain (pos 1 ∷ pos 2 ∷ pos 4 ∷ pos 8 ∷ pos 16 ∷ pos 32 ∷ pos 64 ∷ []) (lent 18) (lentScratch 6)
+    forwardCall 6 0 chain (pos 1 ∷ pos 2 ∷ pos 4 ∷ pos 8 ∷ pos 16 ∷ pos 32 ∷ pos 64 ∷ []) (lent 18) (lentScratch 6)
     ≡ record {
       answer = done tt;
       coordinates =
@@ -76,7 +76,7 @@ LongPath =
 -- colour 1: 0 to 3 has 1, 5 to 2 has 2 - 4, 2 to 3 has 4. Every other s is 0. So the weights are 3, 1, 1, 1 - 3 + 2, -2 - 1, 4 - 1, 10 - 1 - 4.
 abbrev Signed : Type 0
 Signed =
-    backwardCall 6 mixed (placed (pos 10) (pos 1) (pos 4) (pos 5) (pos 4) (pos 1) (pos 5) (pos 2) (pos 3) (pos 5)) (lent 7) (lentScratch 6)
+    backwardCall 6 0 mixed (placed (pos 10) (pos 1) (pos 4) (pos 5) (pos 4) (pos 1) (pos 5) (pos 2) (pos 3) (pos 5)) (lent 7) (lentScratch 6)
     ≡ record {
       answer = done tt;
       weights = pos 3 ∷ pos 1 ∷ pos 1 ∷ pos 0 ∷ minus 3 ∷ pos 3 ∷ pos 5 ∷ [];

@@ -2,10 +2,10 @@
 -- A mesh is n and the flat list `ts` of its triangles' vertex numbers, as it is lent. A mesh that rows 1 to 8 let through is accepted.
 use Prim.Native.Nat.{ℕ, zero, suc, _+_, _-_, _*_, _/_, _%_}
 use mathlib.Core.Bool.{Bool, false, not, _&&_, _||_, cond}
-use mathlib.Core.List.{List, [], _∷_}
+use mathlib.Core.List.{List, [], _∷_, _++_}
 use mathlib.Core.Option.{Option, none, some}
 use lib.Dec.{leb, eqb}
-use lib.ListN.{length, getD}
+use lib.ListN.{length, getD, take, drop}
 use Rattle.definitions.specs.Lists.{range, upto, all, any, filter, iterate, elem, firstOr, first}
 use Rattle.definitions.specs.Answers.{Refusal, vertexPinched, vertexStray}
 
@@ -28,6 +28,13 @@ scratchLength n = 10 * n
 
 abbrev pub pointsLength : ℕ → ℕ
 pointsLength n = 2 * n
+
+-- ---- the outer triangle
+
+-- Document 02, C-12: the mesh with its outer triangle in front. The triangle at place `outerPlace`, counted from 0, comes first, and the others follow as
+-- listed: they are the inner ones, and their numbers from 1 are their places here. Every definition below is of triangles that stand so.
+unfoldable pub fronted : ℕ → List ℕ → List ℕ
+fronted outerPlace ts = take 3 (drop (3 * outerPlace) ts) ++ take (3 * outerPlace) ts ++ drop (3 * outerPlace + 3) ts
 
 -- ---- darts
 

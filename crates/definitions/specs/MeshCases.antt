@@ -70,7 +70,7 @@ Pieces =
 
 -- the mesh check of n and its triangles answers k
 abbrev Refuses : ℕ → List ℕ → ℕ → Type 0
-Refuses n ts k = checkCall n ts (lentScratch n) ≡ record { answer = refused (numbered k); scratch = clearedScratch n }
+Refuses n ts k = checkCall n 0 ts (lentScratch n) ≡ record { answer = refused (numbered k); scratch = clearedScratch n }
 
 -- n + 1 in the last place, n in the first
 abbrev VertexNumbers : Type 0

@@ -21,22 +21,22 @@ use Rattle.definitions.specs.RefusalTable.{torus, L, noNumber}
 -- ---- a call that answers k, with scratch as `left` says and every other slice as lent
 
 abbrev CheckRefuses : ℕ → List ℕ → List ℤ → ℕ → List ℤ → Type 0
-CheckRefuses n ts scratch k left = checkCall n ts scratch ≡ record { answer = refused (numbered k); scratch = left }
+CheckRefuses n ts scratch k left = checkCall n 0 ts scratch ≡ record { answer = refused (numbered k); scratch = left }
 
 abbrev LabelsRefuses : ℕ → List ℕ → List ℕ → List ℤ → ℕ → List ℤ → Type 0
-LabelsRefuses n ts ls scratch k left = labelsCall n ts ls scratch ≡ record { answer = refused (numbered k); labels = ls; scratch = left }
+LabelsRefuses n ts ls scratch k left = labelsCall n 0 ts ls scratch ≡ record { answer = refused (numbered k); labels = ls; scratch = left }
 
 abbrev ForwardRefuses : ℕ → List ℕ → List ℤ → List ℤ → List ℤ → ℕ → List ℤ → Type 0
 ForwardRefuses n ts ws bs scratch k left =
-    forwardCall n ts ws bs scratch ≡ record { answer = refused (numbered k); coordinates = bs; scratch = left }
+    forwardCall n 0 ts ws bs scratch ≡ record { answer = refused (numbered k); coordinates = bs; scratch = left }
 
 abbrev BackwardRefuses : ℕ → List ℕ → List ℤ → List ℤ → List ℤ → ℕ → List ℤ → Type 0
 BackwardRefuses n ts bs ws scratch k left =
-    backwardCall n ts bs ws scratch ≡ record { answer = refused (numbered k); weights = ws; scratch = left }
+    backwardCall n 0 ts bs ws scratch ≡ record { answer = refused (numbered k); weights = ws; scratch = left }
 
 abbrev RepairRefuses : ℕ → List ℕ → List ℤ → List ℤ → List ℤ → ℕ → List ℤ → Type 0
 RepairRefuses n ts ws bs scratch k left =
-    repairCall n ts ws bs scratch ≡ record { answer = refused (numbered k); weights = ws; coordinates = bs; scratch = left }
+    repairCall n 0 ts ws bs scratch ≡ record { answer = refused (numbered k); weights = ws; coordinates = bs; scratch = left }
 
 abbrev SnapRefuses : ℕ → List Float → ℕ → List ℤ → ℕ → Type 0
 SnapRefuses n shares r bs k = snapCall n shares r bs ≡ record { answer = refused (numbered k); coordinates = bs }
@@ -75,7 +75,7 @@ ScratchWords =
     OtherScratch 29
     × OtherScratch 31
     × OtherScratch 72
-    × (checkCall 3 pair (lent 30) ≡ record { answer = done tt; scratch = zeros 30 })
+    × (checkCall 3 0 pair (lent 30) ≡ record { answer = done tt; scratch = zeros 30 })
 
 -- each other slice of each call, an item too short or too long, while the rest have their lengths
 abbrev Lengths : Type 0
@@ -161,9 +161,9 @@ SnapOrder =
 -- among the 64-bit numbers. L - 3 with -9 is L + 6; repair refuses it too, though a raise of -9 to 1 would bring the sum below L.
 abbrev WeightLimit : Type 0
 WeightLimit =
-    (forwardCall 4 tetra (minus 1_073_741_823 ∷ pos 0 ∷ pos 0 ∷ []) (lent 12) (lentScratch 4)
+    (forwardCall 4 0 tetra (minus 1_073_741_823 ∷ pos 0 ∷ pos 0 ∷ []) (lent 12) (lentScratch 4)
     ≡ record { answer = done tt; coordinates = tetraAt (minus L) (minus L) (pos 0) (pos 0); scratch = clearedScratch 4 })
-    × (forwardCall 4 tetra (pos 1_073_741_822 ∷ pos 0 ∷ minus 1 ∷ []) (lent 12) (lentScratch 4)
+    × (forwardCall 4 0 tetra (pos 1_073_741_822 ∷ pos 0 ∷ minus 1 ∷ []) (lent 12) (lentScratch 4)
     ≡ record { answer = done tt; coordinates = tetraAt (pos 1_073_741_821) (pos 1_073_741_822) (pos 0) (minus 1); scratch = clearedScratch 4 })
     × ForwardRefuses 4 tetra (pos 1_073_741_823 ∷ pos 0 ∷ minus 1 ∷ []) (lent 12) (lentScratch 4) 9 (clearedScratch 4)
     × ForwardRefuses 4 tetra (minus (2 ^ 63) ∷ pos 0 ∷ pos 0 ∷ []) (lent 12) (lentScratch 4) 9 (clearedScratch 4)
@@ -172,9 +172,9 @@ WeightLimit =
 -- L and -L pass: they are N and b1 of vertex 3, so the first weight. -L - 1 does not, at the first place and at the last.
 abbrev CoordinateLimit : Type 0
 CoordinateLimit =
-    (backwardCall 4 tetra (tetraAt (pos 1_073_741_823) (pos 1_073_741_823) (pos 0) (pos 0)) (lent 3) (lentScratch 4)
+    (backwardCall 4 0 tetra (tetraAt (pos 1_073_741_823) (pos 1_073_741_823) (pos 0) (pos 0)) (lent 3) (lentScratch 4)
     ≡ record { answer = done tt; weights = pos L ∷ pos 0 ∷ pos 0 ∷ []; scratch = clearedScratch 4 })
-    × (backwardCall 4 tetra (tetraAt (minus 1_073_741_823) (minus 1_073_741_823) (pos 0) (pos 0)) (lent 3) (lentScratch 4)
+    × (backwardCall 4 0 tetra (tetraAt (minus 1_073_741_823) (minus 1_073_741_823) (pos 0) (pos 0)) (lent 3) (lentScratch 4)
     ≡ record { answer = done tt; weights = minus L ∷ pos 0 ∷ pos 0 ∷ []; scratch = clearedScratch 4 })
     × Backs (minus 1_073_741_824 ∷ zeros 11) 10
     × Backs (zeros 11 ++ (minus 1_073_741_824 ∷ [])) 10
@@ -202,7 +202,7 @@ renumberedCorners = at (pos 0) (pos 5) (pos 0) ++ at (pos 0) (pos 0) (pos 5) ++ 
 
 abbrev NamedCorners : Type 0
 NamedCorners =
-    (backwardCall 3 renumbered renumberedCorners (lent 1) (lentScratch 3)
+    (backwardCall 3 0 renumbered renumberedCorners (lent 1) (lentScratch 3)
     ≡ record { answer = done tt; weights = pos 5 ∷ []; scratch = clearedScratch 3 })
     × BackwardRefuses 3 renumbered (at (pos 5) (pos 0) (pos 0) ++ at (pos 0) (pos 5) (pos 0) ++ at (pos 0) (pos 0) (pos 5)) (lent 1)
     (lentScratch 3) 11 (clearedScratch 3)

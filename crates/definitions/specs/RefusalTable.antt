@@ -15,19 +15,23 @@ use Rattle.definitions.specs.CheckedShells.{Every, all-held, _and_, tetr
 
 -- the mesh check of n and its triangles answers k; scratch holds what `left` says
 abbrev Refuses : ℕ → List ℕ → ℕ → List ℤ → Type 0
-Refuses n ts k left = checkCall n ts (lentScratch n) ≡ record { answer = refused (numbered k); scratch = left }
+Refuses n ts k left = checkCall n 0 ts (lentScratch n) ≡ record { answer = refused (numbered k); scratch = left }
 
 -- it answers 7 or 25, with the vertex
 abbrev RefusesVertex : ℕ → List ℕ → Refusal → Type 0
-RefusesVertex n ts why = checkCall n ts (lentScratch n) ≡ record { answer = refused why; scratch = clearedScratch n }
+RefusesVertex n ts why = checkCall n 0 ts (lentScratch n) ≡ record { answer = refused why; scratch = clearedScratch n }
 
 abbrev Row1 : Type 0
 Row1 = Refuses 2 [] 1 (lentScratch 2)
 
 abbrev Row2 : Type 0
 Row2 =
-    forwardCall 4 tetra (pos 5 ∷ pos 3 ∷ []) (lent 12) (lentScratch 4)
+    forwardCall 4 0 tetra (pos 5 ∷ pos 3 ∷ []) (lent 12) (lentScratch 4)
     ≡ record { answer = refused (numbered 2); coordinates = lent 12; scratch = lentScratch 4 }
+
+-- an outer number of 2n - 4 or more: the places of the tetra's four triangles are 0 to 3
+abbrev Row21 : Type 0
+Row21 = checkCall 4 4 tetra (lentScratch 4) ≡ record { answer = refused (numbered 21); scratch = clearedScratch 4 }
 
 abbrev Row3 : Type 0
 Row3 = Refuses 3 (0 ∷ 2 ∷ 1 ∷ 0 ∷ 1 ∷ 3 ∷ []) 3 (clearedScratch 3)
@@ -38,20 +42,22 @@ Row4 = Refuses 3 (0 ∷ 2 ∷ 1 ∷ 0 ∷ 0 ∷ 1 ∷ []) 4 (clearedScratch 3)
 abbrev Row5 : Type 0
 Row5 = Refuses 3 (0 ∷ 2 ∷ 1 ∷ 0 ∷ 2 ∷ 1 ∷ []) 5 (clearedScratch 3)
 
+abbrev pub sideWithoutOpposite : List ℕ
+sideWithoutOpposite = 0 ∷ 1 ∷ 2 ∷ 0 ∷ 2 ∷ 3 ∷ 0 ∷ 3 ∷ 4 ∷ 0 ∷ 4 ∷ 5 ∷ 0 ∷ 5 ∷ 1 ∷ 1 ∷ 5 ∷ 4 ∷ 1 ∷ 4 ∷ 3 ∷ 2 ∷ 5 ∷ 3 ∷ []
+
 abbrev Row6 : Type 0
-Row6 =
-    Refuses 6
-    (0 ∷ 1 ∷ 2 ∷ 0 ∷ 2 ∷ 3 ∷ 0 ∷ 3 ∷ 4 ∷ 0 ∷ 4 ∷ 5 ∷ 0 ∷ 5 ∷ 1 ∷ 1 ∷ 5 ∷ 4 ∷ 1 ∷ 4 ∷ 3 ∷ 2 ∷ 5 ∷ 3 ∷ [])
-    6
-    (clearedScratch 6)
+Row6 = Refuses 6 sideWithoutOpposite 6 (clearedScratch 6)
 
 -- a bipyramid over the sides of a, b, c, with the tips 3 and 4
 abbrev bipyramid : ℕ → ℕ → ℕ → List ℕ
 bipyramid a b c = a ∷ b ∷ 3 ∷ b ∷ c ∷ 3 ∷ c ∷ a ∷ 3 ∷ b ∷ a ∷ 4 ∷ c ∷ b ∷ 4 ∷ a ∷ c ∷ 4 ∷ []
 
 -- both tips have two rings
+abbrev pub bipyramids : List ℕ
+bipyramids = bipyramid 0 1 2 ++ bipyramid 5 6 7
+
 abbrev Row7 : Type 0
-Row7 = RefusesVertex 8 (bipyramid 0 1 2 ++ bipyramid 5 6 7) (vertexPinched 3)
+Row7 = RefusesVertex 8 bipyramids (vertexPinched 3)
 
 -- the torus (i, i + 1, i + 3), (i, i + 3, i + 2) modulo 7, plus 4
 abbrev pub torus : List ℕ
@@ -80,12 +86,12 @@ L = 1_073_741_823
 
 abbrev Row9 : Type 0
 Row9 =
-    forwardCall 4 tetra (pos L ∷ pos 1 ∷ pos 0 ∷ []) (lent 12) (lentScratch 4)
+    forwardCall 4 0 tetra (pos L ∷ pos 1 ∷ pos 0 ∷ []) (lent 12) (lentScratch 4)
     ≡ record { answer = refused (numbered 9); coordinates = lent 12; scratch = clearedScratch 4 }
 
 -- coordinates of the tetra that backward refuses
 abbrev Backs : List ℤ → ℕ → Type 0
-Backs bs k = backwardCall 4 tetra bs (lent 3) (lentScratch 4) ≡ record { answer = refused (numbered k); weights = lent 3; scratch = clearedScratch 4 }
+Backs bs k = backwardCall 4 0 tetra bs (lent 3) (lentScratch 4) ≡ record { answer = refused (numbered k); weights = lent 3; scratch = clearedScratch 4 }
 
 abbrev Row10 : Type 0
 Row10 = Backs (tetraAt (pos 10) (pos 5) (pos (L + 1)) (pos 2)) 10
@@ -101,7 +107,7 @@ Row12 = Backs (tetraAt (pos 9) (pos 5) (pos 3) (pos 2)) 12
 abbrev Row13 : Type 0
 Row13 =
     let ws = pos 1 ∷ minus 1_073_741_821 ∷ pos 1 ∷ [] in
-    repairCall 4 tetra ws (lent 12) (lentScratch 4)
+    repairCall 4 0 tetra ws (lent 12) (lentScratch 4)
     ≡ record {
       answer = refused (stoppedAfter 0);
       weights = ws;
@@ -173,10 +179,10 @@ example-job = (refl, refl)
 
 pub table :
     Every
-    (Row1 ∷ Row2 ∷ Row3 ∷ Row4 ∷ Row5 ∷ Row6 ∷ Row7 ∷ Row25 ∷ Row8 ∷ Row9 ∷ Row10 ∷ Row11 ∷ Row12 ∷ Row13 ∷ Row14
+    (Row1 ∷ Row2 ∷ Row21 ∷ Row3 ∷ Row4 ∷ Row5 ∷ Row6 ∷ Row7 ∷ Row25 ∷ Row8 ∷ Row9 ∷ Row10 ∷ Row11 ∷ Row12 ∷ Row13 ∷ Row14
     ∷ Row15 ∷ Row16 ∷ Row17 ∷ Row18 ∷ Row19 ∷ [])
 unfolding checkCall forwardCall backwardCall repairCall snapCall hostCall prints ofBits
-table = r1 and r2 and r3 and r4 and r5 and r6 and r7 and r25 and r8 and r9 and r10 and r11 and r12 and r13 and r14 and r15 and r16 and r17 and r18
+table = r1 and r2 and r21 and r3 and r4 and r5 and r6 and r7 and r25 and r8 and r9 and r10 and r11 and r12 and r13 and r14 and r15 and r16 and r17 and r18
     and r19 and all-held
   where
     r1 : Row1
@@ -184,6 +190,9 @@ table = r1 and r2 and r3 and r4 and r5 and r6 and r7 and r25 and r8 and r9 and r
 
     r2 : Row2
     r2 = refl
+
+    r21 : Row21
+    r21 = refl
 
     r3 : Row3
     r3 = refl

@@ -1,6 +1,6 @@
 -- Document 01, "Refusals and what stays": the whole outcome of each public call on lent slices, for every input: its answer, and what every lent
 -- slice that it may write holds at the end. Definitions only. (Slices that a call only reads do not change: it has them by `&`.)
-use Prim.Native.Nat.{ℕ}
+use Prim.Native.Nat.{ℕ, _*_, _-_}
 use mathlib.Core.Path.{_≡_}
 use mathlib.Core.Bool.{Bool, false, not, _&&_, _||_, cond}
 use mathlib.Core.List.{List, [], _∷_, _++_, map}
@@ -13,7 +13,7 @@ use lib.Ieee.{Float}
 use Rattle.definitions.specs.Lists.{upto, any, totalAbs}
 use Rattle.definitions.specs.Answers.{Refusal, numbered, stoppedAfter, number, Answer, done, refused, Row, row, firstRefusal, answerOf}
 use Rattle.definitions.specs.Mesh.{trianglesLength, labelsLength, weightsLength, coordinatesLength, scratchLength, pointsLength, row3, row4, row5}
-use Rattle.definitions.specs.Mesh.{row6, row7or25, row8}
+use Rattle.definitions.specs.Mesh.{row6, row7or25, row8, fronted}
 use Rattle.definitions.specs.Labels.{outer, labels}
 use Rattle.definitions.specs.Forward.{forward}
 use Rattle.definitions.specs.Backward.{coordinate, backward}
@@ -39,6 +39,10 @@ wrongLength (slice has wanted) = not (eqb has wanted)
 unfoldable pub row2 : List Slice → Bool
 unfolding any wrongLength
 row2 slices = any wrongLength slices
+
+-- 21: no triangle has the outer number. It is a place in the list, counted from 0, and there are 2n - 4 triangles.
+unfoldable pub row21 : ℕ → ℕ → Bool
+row21 n outerPlace = leb (2 * n - 4) outerPlace
 
 -- 3 to 8, each over the whole mesh before the next; 25 stands at the place of 7
 unfoldable pub meshRows : ℕ → List ℕ → List Row
@@ -89,23 +93,27 @@ scratchAfter (some why) scratch = cond (leb (number why) 2) scratch (map (λ _. 
 
 -- ---- the calls. In each, `found` is the refusal of the first row that finds something.
 
--- A call on a mesh asks 1, 2 (of the triangles, the scratch and its own slices), 3 to 8, and then its own rows.
-unfoldable pub callRefusal : ℕ → List ℕ → List ℤ → List Slice → List Row → Option Refusal
-unfolding row1 row2 meshRows firstRefusal
-callRefusal n ts scratch slices own =
+-- A call on a mesh asks 1, 2 (of the triangles, the scratch and its own slices), 21, then 3 to 8 of the mesh with its outer triangle in front, and then
+-- its own rows.
+unfoldable pub callRefusal : ℕ → ℕ → List ℕ → List ℤ → List Slice → List Row → Option Refusal
+unfolding row1 row2 row21 meshRows fronted firstRefusal
+callRefusal n outerPlace ts scratch slices own =
     let lent = slice (length ts) (trianglesLength n) ∷ slice (length scratch) (scratchLength n) ∷ slices in
-    firstRefusal (row 1 (λ _. row1 mostVertices n) ∷ row 2 (λ _. row2 lent) ∷ meshRows n ts ++ own)
+    firstRefusal
+    (row 1 (λ _. row1 mostVertices n) ∷ row 2 (λ _. row2 lent) ∷ row 21 (λ _. row21 n outerPlace) ∷ meshRows n (fronted outerPlace ts) ++ own)
 
 -- mesh check
 pub record Checked : Type 0 where
   pub answer : Answer (Unit {0})
   pub scratch : List ℤ
 
-unfoldable pub checkCall : ℕ → List ℕ → List ℤ → Checked
+unfoldable pub checkCall : ℕ → ℕ → List ℕ → List ℤ → Checked
 unfolding callRefusal scratchAfter
-checkCall n ts scratch =
-    let found = callRefusal n ts scratch [] [] in
+checkCall n outerPlace ts scratch =
+    let found = callRefusal n outerPlace ts scratch [] [] in
     record { answer = answerOf tt found; scratch = scratchAfter found scratch }
+
+-- In the other calls `mesh` is the mesh with its outer triangle in front: labels and weights follow its order.
 
 -- labels: `ls` is the lent slice that they are written to
 pub record Labelled : Type 0 where
@@ -113,13 +121,14 @@ pub record Labelled : Type 0 where
   pub labels : List ℕ
   pub scratch : List ℤ
 
-unfoldable pub labelsCall : ℕ → List ℕ → List ℕ → List ℤ → Labelled
-unfolding callRefusal scratchAfter labels
-labelsCall n ts ls scratch =
-    let found = callRefusal n ts scratch (slice (length ls) (labelsLength n) ∷ []) [] in
+unfoldable pub labelsCall : ℕ → ℕ → List ℕ → List ℕ → List ℤ → Labelled
+unfolding callRefusal fronted scratchAfter labels
+labelsCall n outerPlace ts ls scratch =
+    let mesh = fronted outerPlace ts in
+    let found = callRefusal n outerPlace ts scratch (slice (length ls) (labelsLength n) ∷ []) [] in
     record {
       answer = answerOf tt found;
-      labels = elim found [ none ↦ labels n ts | some why ↦ ls ];
+      labels = elim found [ none ↦ labels n mesh | some why ↦ ls ];
       scratch = scratchAfter found scratch;
     }
 
@@ -129,14 +138,15 @@ pub record Forwarded : Type 0 where
   pub coordinates : List ℤ
   pub scratch : List ℤ
 
-unfoldable pub forwardCall : ℕ → List ℕ → List ℤ → List ℤ → List ℤ → Forwarded
-unfolding callRefusal row9 scratchAfter labels forward
-forwardCall n ts ws bs scratch =
+unfoldable pub forwardCall : ℕ → ℕ → List ℕ → List ℤ → List ℤ → List ℤ → Forwarded
+unfolding callRefusal fronted row9 scratchAfter labels forward
+forwardCall n outerPlace ts ws bs scratch =
+    let mesh = fronted outerPlace ts in
     let slices = slice (length ws) (weightsLength n) ∷ slice (length bs) (coordinatesLength n) ∷ [] in
-    let found = callRefusal n ts scratch slices (row 9 (λ _. row9 ws) ∷ []) in
+    let found = callRefusal n outerPlace ts scratch slices (row 9 (λ _. row9 ws) ∷ []) in
     record {
       answer = answerOf tt found;
-      coordinates = elim found [ none ↦ forward n ts (labels n ts) ws | some why ↦ bs ];
+      coordinates = elim found [ none ↦ forward n mesh (labels n mesh) ws | some why ↦ bs ];
       scratch = scratchAfter found scratch;
     }
 
@@ -146,13 +156,14 @@ pub record Backwarded : Type 0 where
   pub weights : List ℤ
   pub scratch : List ℤ
 
-unfoldable pub backwardCall : ℕ → List ℕ → List ℤ → List ℤ → List ℤ → Backwarded
-unfolding callRefusal row9 row10 row11 row12 scratchAfter labels backward
-backwardCall n ts bs ws scratch =
+unfoldable pub backwardCall : ℕ → ℕ → List ℕ → List ℤ → List ℤ → List ℤ → Backwarded
+unfolding callRefusal fronted row9 row10 row11 row12 scratchAfter labels backward
+backwardCall n outerPlace ts bs ws scratch =
+    let mesh = fronted outerPlace ts in
     let slices = slice (length bs) (coordinatesLength n) ∷ slice (length ws) (weightsLength n) ∷ [] in
-    let new = backward ts (labels n ts) bs in
-    let own = row 10 (λ _. row10 bs) ∷ row 11 (λ _. row11 ts bs) ∷ row 12 (λ _. row12 n ts bs) ∷ row 9 (λ _. row9 new) ∷ [] in
-    let found = callRefusal n ts scratch slices own in
+    let new = backward mesh (labels n mesh) bs in
+    let own = row 10 (λ _. row10 bs) ∷ row 11 (λ _. row11 mesh bs) ∷ row 12 (λ _. row12 n mesh bs) ∷ row 9 (λ _. row9 new) ∷ [] in
+    let found = callRefusal n outerPlace ts scratch slices own in
     record {
       answer = answerOf tt found;
       weights = elim found [ none ↦ new | some why ↦ ws ];
@@ -172,17 +183,18 @@ repairAnswer finished count = done count
 repairAnswer stopped count = refused (stoppedAfter count)
 repairAnswer outOfFuel count = refused (numbered 0)
 
-unfoldable pub repairCall : ℕ → List ℕ → List ℤ → List ℤ → List ℤ → Repaired
-unfolding callRefusal row9 scratchAfter labels forward repair repairAnswer
-repairCall n ts ws bs scratch =
+unfoldable pub repairCall : ℕ → ℕ → List ℕ → List ℤ → List ℤ → List ℤ → Repaired
+unfolding callRefusal fronted row9 scratchAfter labels forward repair repairAnswer
+repairCall n outerPlace ts ws bs scratch =
+    let mesh = fronted outerPlace ts in
     let slices = slice (length ws) (weightsLength n) ∷ slice (length bs) (coordinatesLength n) ∷ [] in
-    let found = callRefusal n ts scratch slices (row 9 (λ _. row9 ws) ∷ []) in
-    let ls = labels n ts in
-    let end = repair n ts ls ws in
+    let found = callRefusal n outerPlace ts scratch slices (row 9 (λ _. row9 ws) ∷ []) in
+    let ls = labels n mesh in
+    let end = repair n mesh ls ws in
     record {
       answer = elim found [ none ↦ repairAnswer (end .ending) (length (end .raises)) | some why ↦ refused why ];
       weights = elim found [ none ↦ end .weights | some why ↦ ws ];
-      coordinates = elim found [ none ↦ forward n ts ls (end .weights) | some why ↦ bs ];
+      coordinates = elim found [ none ↦ forward n mesh ls (end .weights) | some why ↦ bs ];
       scratch = scratchAfter found scratch;
     }
 
@@ -212,7 +224,7 @@ snapCall n shares scale bs = snapCallWhereZeroIs defaultScale n shares scale bs
 
 -- ---- what is accepted
 
--- a mesh: the rows 1 to 8 find nothing in it
+-- a mesh: the rows 1 to 8 find nothing in it. Which of its triangles is in front makes no difference (crate `theory_sphere`, `accepted-fronted`).
 abbrev pub Accepted : ℕ → List ℕ → Type 0
 Accepted n ts = (row1 mostVertices n ≡ false) × (length ts ≡ trianglesLength n) × (firstRefusal (meshRows n ts) ≡ none)
 

@@ -96,7 +96,7 @@ abbrev LowestFirst : Type 0
 LowestFirst =
     (repair 4 tetra tetraLabels (minus 1 ∷ pos 2 ∷ minus 3 ∷ [])
     ≡ record { ending = finished; weights = pos 4 ∷ pos 5 ∷ pos 1 ∷ []; raises = 2 ∷ 1 ∷ 3 ∷ [] })
-    × (repairCall 4 tetra (minus 1 ∷ pos 2 ∷ minus 3 ∷ []) (lent 12) (lentScratch 4)
+    × (repairCall 4 0 tetra (minus 1 ∷ pos 2 ∷ minus 3 ∷ []) (lent 12) (lentScratch 4)
     ≡ record {
       answer = done 3;
       weights = pos 4 ∷ pos 5 ∷ pos 1 ∷ [];
@@ -108,7 +108,7 @@ LowestFirst =
 -- its m is B too: the absolute values would sum to 3B + 2, past L.
 abbrev CountSoFar : Type 0
 CountSoFar =
-    (repairCall 4 tetra (pos 0 ∷ pos 0 ∷ minus 400_000_000 ∷ []) (lent 12) (lentScratch 4)
+    (repairCall 4 0 tetra (pos 0 ∷ pos 0 ∷ minus 400_000_000 ∷ []) (lent 12) (lentScratch 4)
     ≡ record {
       answer = refused (stoppedAfter 1);
       weights = pos 400_000_001 ∷ pos 0 ∷ minus 400_000_000 ∷ [];
@@ -122,14 +122,14 @@ CountSoFar =
 -- one to L + 1 is refused.
 abbrev RaiseToLimit : Type 0
 RaiseToLimit =
-    (repairCall 4 tetra (pos 1_073_741_821 ∷ pos 0 ∷ pos 1 ∷ []) (lent 12) (lentScratch 4)
+    (repairCall 4 0 tetra (pos 1_073_741_821 ∷ pos 0 ∷ pos 1 ∷ []) (lent 12) (lentScratch 4)
     ≡ record {
       answer = done 1;
       weights = pos 1_073_741_821 ∷ pos 1 ∷ pos 1 ∷ [];
       coordinates = tetraAt (pos 1_073_741_823) (pos 1_073_741_821) (pos 1) (pos 1);
       scratch = clearedScratch 4;
     })
-    × (repairCall 4 tetra (pos 1_073_741_822 ∷ pos 0 ∷ pos 1 ∷ []) (lent 12) (lentScratch 4)
+    × (repairCall 4 0 tetra (pos 1_073_741_822 ∷ pos 0 ∷ pos 1 ∷ []) (lent 12) (lentScratch 4)
     ≡ record {
       answer = refused (stoppedAfter 0);
       weights = pos 1_073_741_822 ∷ pos 0 ∷ pos 1 ∷ [];

@@ -15,7 +15,7 @@ use Rattle.definitions.specs.RefusalTable.{torus, L}
 
 -- the mesh check of n and its triangles is refused, and scratch holds zeros
 abbrev Refuses : ℕ → List ℕ → Refusal → Type 0
-Refuses n ts why = checkCall n ts (lentScratch n) ≡ record { answer = refused why; scratch = clearedScratch n }
+Refuses n ts why = checkCall n 0 ts (lentScratch n) ≡ record { answer = refused why; scratch = clearedScratch n }
 
 -- ---- one kind alone
 
@@ -83,10 +83,10 @@ EachVertex =
 abbrev EachCall : List ℕ → Refusal → Type 0
 EachCall ts why =
     let past = pos (L + 1) in
-    (labelsCall 9 ts (stale 39) (lentScratch 9) ≡ record { answer = refused why; labels = stale 39; scratch = clearedScratch 9 })
-    × (forwardCall 9 ts (replicate 13 past) (lent 27) (lentScratch 9) ≡ record { answer = refused why; coordinates = lent 27; scratch = clearedScratch 9 })
-    × (backwardCall 9 ts (replicate 27 past) (lent 13) (lentScratch 9) ≡ record { answer = refused why; weights = lent 13; scratch = clearedScratch 9 })
-    × (repairCall 9 ts (replicate 13 past) (lent 27) (lentScratch 9)
+    (labelsCall 9 0 ts (stale 39) (lentScratch 9) ≡ record { answer = refused why; labels = stale 39; scratch = clearedScratch 9 })
+    × (forwardCall 9 0 ts (replicate 13 past) (lent 27) (lentScratch 9) ≡ record { answer = refused why; coordinates = lent 27; scratch = clearedScratch 9 })
+    × (backwardCall 9 0 ts (replicate 27 past) (lent 13) (lentScratch 9) ≡ record { answer = refused why; weights = lent 13; scratch = clearedScratch 9 })
+    × (repairCall 9 0 ts (replicate 13 past) (lent 27) (lentScratch 9)
     ≡ record { answer = refused why; weights = replicate 13 past; coordinates = lent 27; scratch = clearedScratch 9 })
 
 pub vertex-cases :

@@ -33,16 +33,17 @@ fn tell(why: Refusal, carried: &mut u64) -> u64
 #[no_mangle]
 pub extern "C" fn packmap_mesh_check(
     n: usize,
+    outer: usize,
     triangles: &[u16],
     scratch: &mut [i64],
     carried: &mut u64,
 ) -> u64
-    ensures answer { λ r. ⌜ r ≡ numberOf (checkCall n (now (triangles .entry)) (now (scratch .entry)) .answer) ⌝ }
+    ensures answer { λ r. ⌜ r ≡ numberOf (checkCall n outer (now (triangles .entry)) (now (scratch .entry)) .answer) ⌝ }
     ensures carried { λ r. ⌜ now (carried .exit) ≡
-        carriedOf (now (carried .entry)) (checkCall n (now (triangles .entry)) (now (scratch .entry)) .answer) ⌝ }
-    ensures scratch { λ r. ⌜ now (scratch .exit) ≡ checkCall n (now (triangles .entry)) (now (scratch .entry)) .scratch ⌝ }
+        carriedOf (now (carried .entry)) (checkCall n outer (now (triangles .entry)) (now (scratch .entry)) .answer) ⌝ }
+    ensures scratch { λ r. ⌜ now (scratch .exit) ≡ checkCall n outer (now (triangles .entry)) (now (scratch .entry)) .scratch ⌝ }
 {
-    match mesh_check::check(n, triangles, scratch) {
+    match mesh_check::check(n, outer, triangles, scratch) {
         MeshAnswer::Accepted => 0,
         MeshAnswer::Refused(why) => tell(why, carried),
     }
@@ -51,18 +52,19 @@ pub extern "C" fn packmap_mesh_check(
 #[no_mangle]
 pub extern "C" fn packmap_labels(
     n: usize,
+    outer: usize,
     triangles: &[u16],
     labels: &mut [u8],
     scratch: &mut [i64],
     carried: &mut u64,
 ) -> u64
-    ensures answer { λ r. ⌜ r ≡ numberOf (labelsCall n (now (triangles .entry)) (now (labels .entry)) (now (scratch .entry)) .answer) ⌝ }
+    ensures answer { λ r. ⌜ r ≡ numberOf (labelsCall n outer (now (triangles .entry)) (now (labels .entry)) (now (scratch .entry)) .answer) ⌝ }
     ensures carried { λ r. ⌜ now (carried .exit) ≡
-        carriedOf (now (carried .entry)) (labelsCall n (now (triangles .entry)) (now (labels .entry)) (now (scratch .entry)) .answer) ⌝ }
-    ensures labels { λ r. ⌜ now (labels .exit) ≡ labelsCall n (now (triangles .entry)) (now (labels .entry)) (now (scratch .entry)) .labels ⌝ }
-    ensures scratch { λ r. ⌜ now (scratch .exit) ≡ labelsCall n (now (triangles .entry)) (now (labels .entry)) (now (scratch .entry)) .scratch ⌝ }
+        carriedOf (now (carried .entry)) (labelsCall n outer (now (triangles .entry)) (now (labels .entry)) (now (scratch .entry)) .answer) ⌝ }
+    ensures labels { λ r. ⌜ now (labels .exit) ≡ labelsCall n outer (now (triangles .entry)) (now (labels .entry)) (now (scratch .entry)) .labels ⌝ }
+    ensures scratch { λ r. ⌜ now (scratch .exit) ≡ labelsCall n outer (now (triangles .entry)) (now (labels .entry)) (now (scratch .entry)) .scratch ⌝ }
 {
-    match labels_call::labels(n, triangles, labels, scratch) {
+    match labels_call::labels(n, outer, triangles, labels, scratch) {
         LabelsAnswer::Written => 0,
         LabelsAnswer::Refused(why) => tell(why, carried),
     }
@@ -71,6 +73,7 @@ pub extern "C" fn packmap_labels(
 #[no_mangle]
 pub extern "C" fn packmap_forward(
     n: usize,
+    outer: usize,
     triangles: &[u16],
     weights: &[i64],
     coordinates: &mut [i64],
@@ -78,15 +81,15 @@ pub extern "C" fn packmap_forward(
     carried: &mut u64,
 ) -> u64
     ensures answer { λ r. ⌜ r ≡
-        numberOf (forwardCall n (now (triangles .entry)) (now (weights .entry)) (now (coordinates .entry)) (now (scratch .entry)) .answer) ⌝ }
+        numberOf (forwardCall n outer (now (triangles .entry)) (now (weights .entry)) (now (coordinates .entry)) (now (scratch .entry)) .answer) ⌝ }
     ensures carried { λ r. ⌜ now (carried .exit) ≡ carriedOf (now (carried .entry))
-        (forwardCall n (now (triangles .entry)) (now (weights .entry)) (now (coordinates .entry)) (now (scratch .entry)) .answer) ⌝ }
+        (forwardCall n outer (now (triangles .entry)) (now (weights .entry)) (now (coordinates .entry)) (now (scratch .entry)) .answer) ⌝ }
     ensures coordinates { λ r. ⌜ now (coordinates .exit) ≡
-        forwardCall n (now (triangles .entry)) (now (weights .entry)) (now (coordinates .entry)) (now (scratch .entry)) .coordinates ⌝ }
+        forwardCall n outer (now (triangles .entry)) (now (weights .entry)) (now (coordinates .entry)) (now (scratch .entry)) .coordinates ⌝ }
     ensures scratch { λ r. ⌜ now (scratch .exit) ≡
-        forwardCall n (now (triangles .entry)) (now (weights .entry)) (now (coordinates .entry)) (now (scratch .entry)) .scratch ⌝ }
+        forwardCall n outer (now (triangles .entry)) (now (weights .entry)) (now (coordinates .entry)) (now (scratch .entry)) .scratch ⌝ }
 {
-    match maps_call::forward(n, triangles, weights, coordinates, scratch) {
+    match maps_call::forward(n, outer, triangles, weights, coordinates, scratch) {
         MapAnswer::Written => 0,
         MapAnswer::Refused(why) => tell(why, carried),
     }
@@ -95,6 +98,7 @@ pub extern "C" fn packmap_forward(
 #[no_mangle]
 pub extern "C" fn packmap_backward(
     n: usize,
+    outer: usize,
     triangles: &[u16],
     coordinates: &[i64],
     weights: &mut [i64],
@@ -102,15 +106,15 @@ pub extern "C" fn packmap_backward(
     carried: &mut u64,
 ) -> u64
     ensures answer { λ r. ⌜ r ≡
-        numberOf (backwardCall n (now (triangles .entry)) (now (coordinates .entry)) (now (weights .entry)) (now (scratch .entry)) .answer) ⌝ }
+        numberOf (backwardCall n outer (now (triangles .entry)) (now (coordinates .entry)) (now (weights .entry)) (now (scratch .entry)) .answer) ⌝ }
     ensures carried { λ r. ⌜ now (carried .exit) ≡ carriedOf (now (carried .entry))
-        (backwardCall n (now (triangles .entry)) (now (coordinates .entry)) (now (weights .entry)) (now (scratch .entry)) .answer) ⌝ }
+        (backwardCall n outer (now (triangles .entry)) (now (coordinates .entry)) (now (weights .entry)) (now (scratch .entry)) .answer) ⌝ }
     ensures weights { λ r. ⌜ now (weights .exit) ≡
-        backwardCall n (now (triangles .entry)) (now (coordinates .entry)) (now (weights .entry)) (now (scratch .entry)) .weights ⌝ }
+        backwardCall n outer (now (triangles .entry)) (now (coordinates .entry)) (now (weights .entry)) (now (scratch .entry)) .weights ⌝ }
     ensures scratch { λ r. ⌜ now (scratch .exit) ≡
-        backwardCall n (now (triangles .entry)) (now (coordinates .entry)) (now (weights .entry)) (now (scratch .entry)) .scratch ⌝ }
+        backwardCall n outer (now (triangles .entry)) (now (coordinates .entry)) (now (weights .entry)) (now (scratch .entry)) .scratch ⌝ }
 {
-    match maps_call::backward(n, triangles, coordinates, weights, scratch) {
+    match maps_call::backward(n, outer, triangles, coordinates, weights, scratch) {
         MapAnswer::Written => 0,
         MapAnswer::Refused(why) => tell(why, carried),
     }
@@ -120,6 +124,7 @@ pub extern "C" fn packmap_backward(
 #[no_mangle]
 pub extern "C" fn packmap_repair(
     n: usize,
+    outer: usize,
     triangles: &[u16],
     weights: &mut [i64],
     coordinates: &mut [i64],
@@ -127,17 +132,17 @@ pub extern "C" fn packmap_repair(
     carried: &mut u64,
 ) -> u64
     ensures answer { λ r. ⌜ r ≡
-        numberOf (repairCall n (now (triangles .entry)) (now (weights .entry)) (now (coordinates .entry)) (now (scratch .entry)) .answer) ⌝ }
+        numberOf (repairCall n outer (now (triangles .entry)) (now (weights .entry)) (now (coordinates .entry)) (now (scratch .entry)) .answer) ⌝ }
     ensures carried { λ r. ⌜ now (carried .exit) ≡ carriedOfRepair (now (carried .entry))
-        (repairCall n (now (triangles .entry)) (now (weights .entry)) (now (coordinates .entry)) (now (scratch .entry)) .answer) ⌝ }
+        (repairCall n outer (now (triangles .entry)) (now (weights .entry)) (now (coordinates .entry)) (now (scratch .entry)) .answer) ⌝ }
     ensures weights { λ r. ⌜ now (weights .exit) ≡
-        repairCall n (now (triangles .entry)) (now (weights .entry)) (now (coordinates .entry)) (now (scratch .entry)) .weights ⌝ }
+        repairCall n outer (now (triangles .entry)) (now (weights .entry)) (now (coordinates .entry)) (now (scratch .entry)) .weights ⌝ }
     ensures coordinates { λ r. ⌜ now (coordinates .exit) ≡
-        repairCall n (now (triangles .entry)) (now (weights .entry)) (now (coordinates .entry)) (now (scratch .entry)) .coordinates ⌝ }
+        repairCall n outer (now (triangles .entry)) (now (weights .entry)) (now (coordinates .entry)) (now (scratch .entry)) .coordinates ⌝ }
     ensures scratch { λ r. ⌜ now (scratch .exit) ≡
-        repairCall n (now (triangles .entry)) (now (weights .entry)) (now (coordinates .entry)) (now (scratch .entry)) .scratch ⌝ }
+        repairCall n outer (now (triangles .entry)) (now (weights .entry)) (now (coordinates .entry)) (now (scratch .entry)) .scratch ⌝ }
 {
-    match repair_call::repair(n, triangles, weights, coordinates, scratch) {
+    match repair_call::repair(n, outer, triangles, weights, coordinates, scratch) {
         RepairAnswer::Repaired(raises) => {
             *carried = raises as u64;
             0

@@ -11,7 +11,8 @@ use lib.Seq.{length-take-le}
 use lib.IntN.{ℤ, pos, natAbs}
 use borrow.Author.Tests.{ltb-false}
 use Rattle.definitions.specs.Lists.{total, totalAbs}
-use Rattle.definitions.specs.Mesh.{coordinatesLength, scratchLength, org}
+use Rattle.definitions.specs.Mesh.{coordinatesLength, scratchLength, org, fronted}
+use Rattle.theory_sphere.specs.Fronted.{fronted-0}
 use Rattle.definitions.specs.Labels.{outer}
 use Rattle.definitions.specs.Backward.{coordinate}
 use Rattle.definitions.specs.Answers.{Answer, done, refused, numbered, stoppedAfter as stopped, lineBroken, Refusal, number}
@@ -188,7 +189,7 @@ take-replicate (suc k) (suc m) a h = ap (λ l. a ∷ l) (take-replicate k m a (o
 
 module _ (n : ℕ) (ts : List ℕ) (ws : List ℤ) where
   abbrev end : Repaired
-  end = repairCall n ts ws (replicate (coordinatesLength n) (pos 0)) (replicate (scratchLength n) (pos 0))
+  end = repairCall n 0 ts ws (replicate (coordinatesLength n) (pos 0)) (replicate (scratchLength n) (pos 0))
 
   ran-refused : (why : Refusal) → end .answer ≡ refused why → ran n ts ws ≡ refused (toldWithText why)
   unfolding repairJob
@@ -196,12 +197,16 @@ module _ (n : ℕ) (ts : List ℕ) (ws : List ℤ) where
 
   module _ (raises : ℕ) (e : end .answer ≡ done raises) where
     done-few : raises ≤ 2 * n - 5
-    done-few = RepairDemand.count-few n ts (maps n ts) ws (replicate (coordinatesLength n) (pos 0)) (replicate (scratchLength n) (pos 0)) raises (inl e)
+    done-few =
+        RepairDemand.count-few n 0 ts (maps n (fronted 0 ts)) ws (replicate (coordinatesLength n) (pos 0)) (replicate (scratchLength n) (pos 0)) raises (inl e)
 
     -- N is b0 of v0
     done-total : coordinate (end .coordinates) 0 (org ts 0) ≡ total (end .weights)
     unfolding outer
-    done-total = RepairDemand.count-total n ts (maps n ts) ws (replicate (coordinatesLength n) (pos 0)) (replicate (scratchLength n) (pos 0)) raises (inl e)
+    done-total =
+        rw (fronted-0 ts) at
+        (RepairDemand.count-total n 0 ts (maps n (fronted 0 ts)) ws (replicate (coordinatesLength n) (pos 0)) (replicate (scratchLength n) (pos 0)) raises
+        (inl e))
 
     ran-total : ran n ts ws ≡ done (listing n (total (end .weights)) raises (end .coordinates))
     unfolding repairJob
@@ -213,14 +218,14 @@ module _ (n : ℕ) (ts : List ℕ) (ws : List ℤ) where
   -- as the code lends them: the fronts of two arrays of zeros, with room for the largest job
   abbrev onFronts : Repaired
   onFronts =
-      repairCall n ts ws (take (coordinatesLength n) (replicate (coordinatesLength 256) (pos 0)))
+      repairCall n 0 ts ws (take (coordinatesLength n) (replicate (coordinatesLength 256) (pos 0)))
       (take (scratchLength n) (replicate (scratchLength 256) (pos 0)))
 
   -- r is what the code answers
   module _ (F : Fitting n ts ws) (r : RepairAnswer) (told-it : repairToAnswer r ≡ onFronts .answer) where
     zeros : onFronts ≡ end
     zeros =
-        ap₂ (repairCall n ts ws) (take-replicate (coordinatesLength n) (coordinatesLength 256) (pos 0) (omega (arith, F .most)))
+        ap₂ (repairCall n 0 ts ws) (take-replicate (coordinatesLength n) (coordinatesLength 256) (pos 0) (omega (arith, F .most)))
         (take-replicate (scratchLength n) (scratchLength 256) (pos 0) (omega (arith, F .most)))
 
     answer-is : (a : Answer ℕ) → repairToAnswer r ≡ a → end .answer ≡ a
@@ -276,9 +281,9 @@ listing-room text bytes e = go (readJob text) refl
         let same : bytes ≡ listing n (total (E .weights)) raises (E .coordinates) = cc in
         rw same
         (listing-fits n (total (E .weights)) raises (E .coordinates) (sized .1)
-        (row9-total (E .weights) (RepairDemand.count-weights n ts (maps n ts) ws bs scratch raises (inl q) .1))
+        (row9-total (E .weights) (RepairDemand.count-weights n 0 ts (maps n (fronted 0 ts)) ws bs scratch raises (inl q) .1))
         (omega (arith, done-few n ts ws raises q, sized))
-        (RepairDemand.count-limits n ts (maps n ts) ws bs scratch raises (inl q)))
+        (RepairDemand.count-limits n 0 ts (maps n (fronted 0 ts)) ws bs scratch raises (inl q)))
 
     go : (a : Answer Job) → readJob text ≡ a → length bytes ≤ 16384
     go (refused why) p = let z : _≡_ {A = ℕ} 0 1 = cc (sym e ∙ run-refused text why p) in absurd (omega arith)

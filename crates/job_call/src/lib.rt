@@ -61,7 +61,7 @@ fn list(
     }
 }
 
-// A job that is read, over arrays with room for the largest one.
+// A job that is read, over arrays with room for the largest one. Its first triangle is the outer one.
 fn finish(n: usize, triangles: &[u16], weights: &mut [i64], listing: &mut [u8]) -> JobAnswer
     requires { ⌜ Fitting n (now triangles) (now weights) ⌝ }
     ensures { λ r. ⌜ Ends (ran n (now (triangles .entry)) (now (weights .entry))) (now (listing .entry)) (now (listing .exit)) r ⌝ }
@@ -71,6 +71,7 @@ fn finish(n: usize, triangles: &[u16], weights: &mut [i64], listing: &mut [u8]) 
     let places = &mut coordinates[..3 * n];
     match repair_call::repair(
         n,
+        0,
         triangles,
         weights,
         places,

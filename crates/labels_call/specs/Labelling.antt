@@ -2,19 +2,20 @@
 use Prim.Native.Nat.{ℕ, zero, suc, _+_, _*_, _/_, _%_, _<_}
 use mathlib.Core.Path.{_≡_, refl, sym, _∙_}
 use mathlib.Core.List.{List, [], _∷_}
-use mathlib.Core.Option.{some}
+use mathlib.Core.Option.{none, some}
 use native.Mathlib.Omega.{arith}
 use native.Mathlib.Decide.{decLt, ℕ-discrete}
 use native.Mathlib.Numerals.{add-three}
 use lib.ListN.{length, getD, set, length-set, List·getD-eq-default}
 use lib.Seq.{ext-getD, getD-set-same, getD-set-other}
 use lib.IntN.{ℤ}
-use Rattle.definitions.specs.Mesh.{labelsLength, org, opp}
+use Rattle.definitions.specs.Mesh.{labelsLength, fronted, org, opp}
 use Rattle.definitions.specs.Answers.{firstRefusal}
-use Rattle.definitions.specs.Refusals.{meshRows, Accepted as AcceptedMesh}
 use Rattle.definitions.specs.Labels.{labels, label}
 use Rattle.laws.specs.Lists.{getD-in}
 use Rattle.theory_sphere.specs.Sphere.{Sphere}
+use Rattle.theory_sphere.specs.Accept.{accepted-sphere}
+use Rattle.theory_sphere.specs.FirstRefusal.{rimRows}
 use Rattle.theory_peeling.specs.Labelled.{labels-exact, labels-below}
 use Rattle.scratch_tables.specs.Tables.{tablesOf}
 use Rattle.mesh_tables.specs.Incidence.{incidenceOf, incidence}
@@ -23,7 +24,7 @@ use Rattle.labels_tables.specs.LabelledTables.{Peeled, labelIn, labelIn-is}
 use Rattle.labels_write.specs.Writing.{Readable}
 use Rattle.mesh_answer.specs.Answer.{toRefusal, refusalIn}
 use Rattle.mesh_answer.specs.declared.Refusal.{Refusal}
-use Rattle.mesh_check.specs.Stages.{Lent, Examined, Accepting, accepting-mesh, accepting-sphere}
+use Rattle.mesh_check.specs.Stages.{Lent, mesh-lent, Examined, AcceptingRim, accepted-none, accepting-mesh}
 use Rattle.mesh_answer.specs.declared.MeshAnswer.{MeshAnswer}
 use Rattle.mesh_answer.specs.declared.MeshAnswer.the-variants.{Accepted, Refused}
 use Rattle.labels_model.specs.Counters.{Meshed}
@@ -31,44 +32,56 @@ use Rattle.labels_model.specs.Model.{peelTables}
 use Rattle.labels_model.specs.Preconditions.{Room, HasMesh, has-mesh}
 use Rattle.labels_model.specs.Result.{peeled-tables}
 
--- what the answer says: the mesh is accepted, and scratch holds its labels and the trace of its peeling; or a row has found something
-abbrev pub Labelling : ℕ → List ℕ → List ℤ → MeshAnswer → Type 0
-Labelling n ts s Accepted = AcceptedMesh n ts × Peeled n ts (labels n ts) s
-Labelling n ts s (Refused why) = firstRefusal (meshRows n ts) ≡ some (toRefusal why)
+-- no row has found anything, and scratch holds the labels of the mesh and the trace of its peeling
+pub record LabelledRim (n outerPlace : ℕ) (ts : List ℕ) (s : List ℤ) : Type 0 where
+  pub rows : firstRefusal (rimRows n outerPlace ts) ≡ none
+  pub peeled : Peeled n (fronted outerPlace ts) (labels n (fronted outerPlace ts)) s
+
+-- what the answer says: so it is, or a row has found something
+abbrev pub Labelling : ℕ → ℕ → List ℕ → List ℤ → MeshAnswer → Type 0
+Labelling n outerPlace ts s Accepted = LabelledRim n outerPlace ts s
+Labelling n outerPlace ts s (Refused why) = firstRefusal (rimRows n outerPlace ts) ≡ some (toRefusal why)
 
 -- ---- an answer taken apart
 
-pub labelling-refused : (n : ℕ) (ts : List ℕ) (s : List ℤ) (r : MeshAnswer) (why : Refusal) → r ≡ Refused why → Examined n ts s r →
-    Labelling n ts s r
-labelling-refused n ts s r why e S = let p : Examined n ts s (Refused why) = rw e at S in rw e p
+module _ (n outerPlace : ℕ) (ts : List ℕ) where
+  pub labelling-refused : (s : List ℤ) (r : MeshAnswer) (why : Refusal) → r ≡ Refused why → Examined n outerPlace ts s r → Labelling n outerPlace ts s r
+  labelling-refused s r why e S = let p : Examined n outerPlace ts s (Refused why) = rw e at S in rw e p
 
--- what the stage asks, and what it leaves, where the mesh check has accepted
-module _ (n : ℕ) (ts : List ℕ) (words : ℕ) (L : Lent n ts words) (s : List ℤ) (a : MeshAnswer) (e : a ≡ Accepted) (S : Examined n ts s a) where
-  accepting : Accepting n ts (incidence s)
-  accepting = rw e at S
+  -- what the stage asks, and what it leaves, where the mesh check has accepted
+  module _ (words : ℕ) (L : Lent n ts words) (s : List ℤ) (a : MeshAnswer) (e : a ≡ Accepted) (S : Examined n outerPlace ts s a) where
+    abbrev mesh : List ℕ
+    mesh = fronted outerPlace ts
 
-  sphere : Sphere n (length ts / 3) (org ts) (opp ts)
-  sphere = accepting-sphere L accepting
+    accepting : AcceptingRim n outerPlace ts (incidence s)
+    accepting = rw e at S
 
-  -- the darts' words are read as the mesh check has left them
-  meshed : Meshed ts (peeling s)
-  unfolding incidenceOf peelingOf
-  meshed = record { turns = accepting .turns; origins = accepting .origins }
+    M : Lent n mesh words
+    M = mesh-lent record { there = accepting .there; lent = L }
 
-  pub can-peel : (m : ℕ) → m ≡ words → Room n m × HasMesh n (peeling s)
-  can-peel m f = (rw f record { least = L .least; most = L .most; room = L .room }, has-mesh n ts (peeling s) sphere (L .triangles) meshed)
+    sphere : Sphere n (length mesh / 3) (org mesh) (opp mesh)
+    sphere = accepted-sphere n mesh (accepting-mesh L accepting)
 
-  pub peeled : (s′ : List ℤ) → length s′ ≡ words → peeling s′ ≡ peelTables n (peeling s) → AcceptedMesh n ts × Peeled n ts (labels n ts) s′
-  peeled s′ l f =
-      (accepting-mesh L accepting, peeled-tables n ts sphere (L .triangles) (L .most) (peeling s) meshed s′ (rw l (L .room)) f)
+    -- the darts' words are read as the mesh check has left them
+    meshed : Meshed mesh (peeling s)
+    unfolding incidenceOf peelingOf
+    meshed = record { turns = accepting .mesh .turns; origins = accepting .mesh .origins }
 
-pub labelled-refused : (n : ℕ) (ts : List ℕ) (s : List ℤ) (a : MeshAnswer) (why : Refusal) → a ≡ Refused why → Labelling n ts s a →
-    firstRefusal (meshRows n ts) ≡ some (toRefusal (refusalIn a))
-labelled-refused n ts s a why e S = rw e (rw e at S)
+    pub can-peel : (m : ℕ) → m ≡ words → Room n m × HasMesh n (peeling s)
+    can-peel m f = (rw f record { least = M .least; most = M .most; room = M .room }, has-mesh n mesh (peeling s) sphere (M .triangles) meshed)
 
-pub labelled-accepted : (n : ℕ) (ts : List ℕ) (s : List ℤ) (a : MeshAnswer) → a ≡ Accepted → Labelling n ts s a → AcceptedMesh n ts
-    × Peeled n ts (labels n ts) s
-labelled-accepted n ts s a e S = rw e at S
+    pub peels : (s′ : List ℤ) → length s′ ≡ words → peeling s′ ≡ peelTables n (peeling s) → LabelledRim n outerPlace ts s′
+    peels s′ l f = record {
+      rows = accepted-none accepting;
+      peeled = peeled-tables n mesh sphere (M .triangles) (M .most) (peeling s) meshed s′ (rw l (M .room)) f;
+    }
+
+  pub labelled-refused : (s : List ℤ) (a : MeshAnswer) (why : Refusal) → a ≡ Refused why → Labelling n outerPlace ts s a →
+      firstRefusal (rimRows n outerPlace ts) ≡ some (toRefusal (refusalIn a))
+  labelled-refused s a why e S = rw e (rw e at S)
+
+  pub labelled-accepted : (s : List ℤ) (a : MeshAnswer) → a ≡ Accepted → Labelling n outerPlace ts s a → LabelledRim n outerPlace ts s
+  labelled-accepted s a e S = rw e at S
 
 -- ---- the labels, read from scratch
 

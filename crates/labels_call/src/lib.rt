@@ -21,13 +21,13 @@ pub enum LabelsAnswer {
     Refused(Refusal),
 }
 
-// Rows 3 to 8 and the labels stage, for every call that needs labels. Where the mesh is accepted scratch holds the labels and the trace of the peeling.
+// Rows 21 and 3 to 8 and the labels stage, for every call that needs labels. Where the mesh is accepted scratch holds the labels and the trace of the peeling.
 // Where it is refused nothing is said of scratch: the call clears it.
-pub fn label_mesh(n: usize, triangles: &[u16], scratch: &mut [i64]) -> MeshAnswer
+pub fn label_mesh(n: usize, outer: usize, triangles: &[u16], scratch: &mut [i64]) -> MeshAnswer
     requires { ⌜ Lent n (now triangles) (length (now scratch)) ⌝ }
-    ensures { λ r. ⌜ Labelling n (now (triangles .entry)) (now (scratch .exit)) r ⌝ }
+    ensures { λ r. ⌜ Labelling n outer (now (triangles .entry)) (now (scratch .exit)) r ⌝ }
 {
-    let examined = examine(n, triangles, scratch);
+    let examined = examine(n, outer, triangles, scratch);
     let MeshAnswer::Accepted = examined else {
         return examined;
     };
@@ -35,13 +35,19 @@ pub fn label_mesh(n: usize, triangles: &[u16], scratch: &mut [i64]) -> MeshAnswe
     MeshAnswer::Accepted
 }
 
-// Rows 3 to 8, and the labels. Nothing is said of scratch: the call clears it.
-fn run_labels(n: usize, triangles: &[u16], labels: &mut [u8], scratch: &mut [i64]) -> LabelsAnswer
+// Rows 21 and 3 to 8, and the labels. Nothing is said of scratch: the call clears it.
+fn run_labels(
+    n: usize,
+    outer: usize,
+    triangles: &[u16],
+    labels: &mut [u8],
+    scratch: &mut [i64],
+) -> LabelsAnswer
     requires { ⌜ LabelsFit n (now triangles) (now labels) (now scratch) ⌝ }
-    ensures answer { λ r. ⌜ labelsToAnswer r ≡ labelsCall n (now (triangles .entry)) (now (labels .entry)) (now (scratch .entry)) .answer ⌝ }
-    ensures labels { λ r. ⌜ now (labels .exit) ≡ labelsCall n (now (triangles .entry)) (now (labels .entry)) (now (scratch .entry)) .labels ⌝ }
+    ensures answer { λ r. ⌜ labelsToAnswer r ≡ labelsCall n outer (now (triangles .entry)) (now (labels .entry)) (now (scratch .entry)) .answer ⌝ }
+    ensures labels { λ r. ⌜ now (labels .exit) ≡ labelsCall n outer (now (triangles .entry)) (now (labels .entry)) (now (scratch .entry)) .labels ⌝ }
 {
-    let labelled = label_mesh(n, triangles, scratch);
+    let labelled = label_mesh(n, outer, triangles, scratch);
     let MeshAnswer::Accepted = labelled else {
         return LabelsAnswer::Refused(refusal_of(labelled));
     };
@@ -50,16 +56,22 @@ fn run_labels(n: usize, triangles: &[u16], labels: &mut [u8], scratch: &mut [i64
 }
 
 // The public call. Scratch is as lent after 1 and 2, and holds zeros after every other answer.
-pub fn labels(n: usize, triangles: &[u16], labels: &mut [u8], scratch: &mut [i64]) -> LabelsAnswer
-    ensures answer { λ r. ⌜ labelsToAnswer r ≡ labelsCall n (now (triangles .entry)) (now (labels .entry)) (now (scratch .entry)) .answer ⌝ }
-    ensures labels { λ r. ⌜ now (labels .exit) ≡ labelsCall n (now (triangles .entry)) (now (labels .entry)) (now (scratch .entry)) .labels ⌝ }
-    ensures scratch { λ r. ⌜ now (scratch .exit) ≡ labelsCall n (now (triangles .entry)) (now (labels .entry)) (now (scratch .entry)) .scratch ⌝ }
+pub fn labels(
+    n: usize,
+    outer: usize,
+    triangles: &[u16],
+    labels: &mut [u8],
+    scratch: &mut [i64],
+) -> LabelsAnswer
+    ensures answer { λ r. ⌜ labelsToAnswer r ≡ labelsCall n outer (now (triangles .entry)) (now (labels .entry)) (now (scratch .entry)) .answer ⌝ }
+    ensures labels { λ r. ⌜ now (labels .exit) ≡ labelsCall n outer (now (triangles .entry)) (now (labels .entry)) (now (scratch .entry)) .labels ⌝ }
+    ensures scratch { λ r. ⌜ now (scratch .exit) ≡ labelsCall n outer (now (triangles .entry)) (now (labels .entry)) (now (scratch .entry)) .scratch ⌝ }
 {
     let number = labels_rows(n, triangles.len(), labels.len(), scratch.len());
     if number != 0 {
         return LabelsAnswer::Refused(Refusal::Numbered(number));
     }
-    let answer = run_labels(n, triangles, labels, scratch);
+    let answer = run_labels(n, outer, triangles, labels, scratch);
     clear(scratch);
     answer
 }

@@ -25,9 +25,10 @@ pub enum MapAnswer {
     Refused(Refusal),
 }
 
-// Rows 3 to 9, and the coordinates. Nothing is said of scratch: the call clears it.
+// Rows 21 and 3 to 9, and the coordinates. Nothing is said of scratch: the call clears it.
 fn run_forward(
     n: usize,
+    outer: usize,
     triangles: &[u16],
     weights: &[i64],
     coordinates: &mut [i64],
@@ -35,11 +36,11 @@ fn run_forward(
 ) -> MapAnswer
     requires { ⌜ Lengths n (length (now triangles)) (length (now scratch)) (length (now weights)) (length (now coordinates)) ⌝ }
     ensures answer { λ r. ⌜ mapToAnswer r ≡
-        forwardCall n (now (triangles .entry)) (now (weights .entry)) (now (coordinates .entry)) (now (scratch .entry)) .answer ⌝ }
+        forwardCall n outer (now (triangles .entry)) (now (weights .entry)) (now (coordinates .entry)) (now (scratch .entry)) .answer ⌝ }
     ensures coordinates { λ r. ⌜ now (coordinates .exit) ≡
-        forwardCall n (now (triangles .entry)) (now (weights .entry)) (now (coordinates .entry)) (now (scratch .entry)) .coordinates ⌝ }
+        forwardCall n outer (now (triangles .entry)) (now (weights .entry)) (now (coordinates .entry)) (now (scratch .entry)) .coordinates ⌝ }
 {
-    let labelled = label_mesh(n, triangles, scratch);
+    let labelled = label_mesh(n, outer, triangles, scratch);
     let MeshAnswer::Accepted = labelled else {
         return MapAnswer::Refused(refusal_of(labelled));
     };
@@ -53,17 +54,18 @@ fn run_forward(
 // The public call. Scratch is as lent after 1 and 2, and holds zeros after every other answer.
 pub fn forward(
     n: usize,
+    outer: usize,
     triangles: &[u16],
     weights: &[i64],
     coordinates: &mut [i64],
     scratch: &mut [i64],
 ) -> MapAnswer
     ensures answer { λ r. ⌜ mapToAnswer r ≡
-        forwardCall n (now (triangles .entry)) (now (weights .entry)) (now (coordinates .entry)) (now (scratch .entry)) .answer ⌝ }
+        forwardCall n outer (now (triangles .entry)) (now (weights .entry)) (now (coordinates .entry)) (now (scratch .entry)) .answer ⌝ }
     ensures coordinates { λ r. ⌜ now (coordinates .exit) ≡
-        forwardCall n (now (triangles .entry)) (now (weights .entry)) (now (coordinates .entry)) (now (scratch .entry)) .coordinates ⌝ }
+        forwardCall n outer (now (triangles .entry)) (now (weights .entry)) (now (coordinates .entry)) (now (scratch .entry)) .coordinates ⌝ }
     ensures scratch { λ r. ⌜ now (scratch .exit) ≡
-        forwardCall n (now (triangles .entry)) (now (weights .entry)) (now (coordinates .entry)) (now (scratch .entry)) .scratch ⌝ }
+        forwardCall n outer (now (triangles .entry)) (now (weights .entry)) (now (coordinates .entry)) (now (scratch .entry)) .scratch ⌝ }
 {
     let number = map_rows(
         n,
@@ -75,14 +77,15 @@ pub fn forward(
     if number != 0 {
         return MapAnswer::Refused(Refusal::Numbered(number));
     }
-    let answer = run_forward(n, triangles, weights, coordinates, scratch);
+    let answer = run_forward(n, outer, triangles, weights, coordinates, scratch);
     clear(scratch);
     answer
 }
 
-// Rows 3 to 8, then 10, 11, 12 and 9, and the weights. Nothing is said of scratch: the call clears it.
+// Rows 21 and 3 to 8, then 10, 11, 12 and 9, and the weights. Nothing is said of scratch: the call clears it.
 fn run_backward(
     n: usize,
+    outer: usize,
     triangles: &[u16],
     coordinates: &[i64],
     weights: &mut [i64],
@@ -90,11 +93,11 @@ fn run_backward(
 ) -> MapAnswer
     requires { ⌜ Lengths n (length (now triangles)) (length (now scratch)) (length (now weights)) (length (now coordinates)) ⌝ }
     ensures answer { λ r. ⌜ mapToAnswer r ≡
-        backwardCall n (now (triangles .entry)) (now (coordinates .entry)) (now (weights .entry)) (now (scratch .entry)) .answer ⌝ }
+        backwardCall n outer (now (triangles .entry)) (now (coordinates .entry)) (now (weights .entry)) (now (scratch .entry)) .answer ⌝ }
     ensures weights { λ r. ⌜ now (weights .exit) ≡
-        backwardCall n (now (triangles .entry)) (now (coordinates .entry)) (now (weights .entry)) (now (scratch .entry)) .weights ⌝ }
+        backwardCall n outer (now (triangles .entry)) (now (coordinates .entry)) (now (weights .entry)) (now (scratch .entry)) .weights ⌝ }
 {
-    let labelled = label_mesh(n, triangles, scratch);
+    let labelled = label_mesh(n, outer, triangles, scratch);
     let MeshAnswer::Accepted = labelled else {
         return MapAnswer::Refused(refusal_of(labelled));
     };
@@ -117,17 +120,18 @@ fn run_backward(
 // The public call. Scratch is as lent after 1 and 2, and holds zeros after every other answer.
 pub fn backward(
     n: usize,
+    outer: usize,
     triangles: &[u16],
     coordinates: &[i64],
     weights: &mut [i64],
     scratch: &mut [i64],
 ) -> MapAnswer
     ensures answer { λ r. ⌜ mapToAnswer r ≡
-        backwardCall n (now (triangles .entry)) (now (coordinates .entry)) (now (weights .entry)) (now (scratch .entry)) .answer ⌝ }
+        backwardCall n outer (now (triangles .entry)) (now (coordinates .entry)) (now (weights .entry)) (now (scratch .entry)) .answer ⌝ }
     ensures weights { λ r. ⌜ now (weights .exit) ≡
-        backwardCall n (now (triangles .entry)) (now (coordinates .entry)) (now (weights .entry)) (now (scratch .entry)) .weights ⌝ }
+        backwardCall n outer (now (triangles .entry)) (now (coordinates .entry)) (now (weights .entry)) (now (scratch .entry)) .weights ⌝ }
     ensures scratch { λ r. ⌜ now (scratch .exit) ≡
-        backwardCall n (now (triangles .entry)) (now (coordinates .entry)) (now (weights .entry)) (now (scratch .entry)) .scratch ⌝ }
+        backwardCall n outer (now (triangles .entry)) (now (coordinates .entry)) (now (weights .entry)) (now (scratch .entry)) .scratch ⌝ }
 {
     let number = map_rows(
         n,
@@ -139,7 +143,7 @@ pub fn backward(
     if number != 0 {
         return MapAnswer::Refused(Refusal::Numbered(number));
     }
-    let answer = run_backward(n, triangles, coordinates, weights, scratch);
+    let answer = run_backward(n, outer, triangles, coordinates, weights, scratch);
     clear(scratch);
     answer
 }

@@ -68,14 +68,18 @@ pub zeros-empty : (t : Tables) → ((v : ℕ) → t .head v ≡ 0) → ((w : ℕ
 unfolding incidenceOf field0 field1
 zeros-empty t h m = record { first = λ v. rw (h v); number = λ v. rw (h v); mark = m }
 
+-- dart d goes to the front of the list of v, its origin
+abbrev pub putFirst : ℕ → ℕ → Incidence → Incidence
+putFirst d v i = setList v d (i .number v + 1) (setDart d (i .first v) v i)
+
 module _ (ts : List ℕ) where
   -- the words have the origins of the mesh
   abbrev pub Origins : (ℕ → ℕ) → Type 0
   Origins origin = (d : ℕ) → d < length ts → origin d ≡ org ts d
 
-  -- dart d goes to the front of its origin's list
+  -- a dart of the mesh does
   unfoldable pub push : ℕ → Incidence → Incidence
-  push d i = setList (org ts d) d (i .number (org ts d) + 1) (setDart d (i .first (org ts d)) (org ts d) i)
+  push d i = putFirst d (org ts d) i
 
   -- the darts below k do, the last of them first
   unfoldable pub fill : ℕ → Incidence → Incidence

@@ -5,21 +5,23 @@ use mathlib.Core.Path.{_≡_, refl, sym, ap, _∙_}
 use mathlib.Core.Bool.{Bool, true, false, cond}
 use mathlib.Core.List.{List, _∷_}
 use native.Mathlib.Omega.{arith}
+use native.Mathlib.Decide.{decLt}
 use lib.ListN.{length}
 use borrow.Author.Tests.{eq-eqb, ne-eqb}
 use lib.IntN.{ℤ}
-use Rattle.definitions.specs.Mesh.{next, prev, org, row4}
+use Rattle.definitions.specs.Mesh.{next, prev, org, row4, fronted}
+use Rattle.theory_sphere.specs.Fronted.{listed, listed-outer, listed-moved, listed-kept, length-fronted}
 use Rattle.laws.specs.Lists.{clash}
 use Rattle.scratch_tables.specs.Tables.{upd, dartIn}
 use Rattle.mesh_tables.specs.Incidence.{Incidence, incidence, setTurn, setMark, withTurn, withMark}
-use Rattle.mesh_model.specs.IncidenceLists.{chain, listAt, push, fill, Counted, empty-counts, push-counts}
+use Rattle.mesh_model.specs.IncidenceLists.{chain, listAt, putFirst, push, fill, Counted, empty-counts, push-counts}
 use Rattle.mesh_model.specs.Bounds.{Bounded, bounded-mark, bounded-turn}
 use Rattle.mesh_model.specs.DuplicateSides.{Scan, noted, noted-dart, isOf, clashes, scan, scanAll, scan-clash, scan-on}
 use Rattle.mesh_model.specs.Opposites.{Join, Round, facing, meets, join, scanned, joined, joinAll}
 use Rattle.mesh_model.specs.RingWalk.{oneRing, ringRow}
 use Rattle.mesh_rings.specs.RingLoops.{Rounding}
-use Rattle.mesh_sides.specs.RepeatedVertex.{repeatedAt, NoLoops, loop-found, loops-none, no-loops}
-use Rattle.mesh_sides.specs.Room.{Pushing, PushingThree, Filling, Beside, AtVertex, Ready, beside-next, beside-prev}
+use Rattle.mesh_sides.specs.RepeatedVertex.{repeatedAt, repeatedIn, repeated-is, NoLoops, loop-found, loops-none, no-loops}
+use Rattle.mesh_sides.specs.Room.{Pushing, PushingThree, corner-is, PushingAt, Fillable, Filling, Beside, AtVertex, Ready, beside-next, beside-prev}
 
 -- ---- lists are filled from the last triangle down to that of dart d
 
@@ -27,41 +29,6 @@ use Rattle.mesh_sides.specs.Room.{Pushing, PushingThree, Filling, Beside
 pub record ThreePushed (ts : List ℕ) (s s′ : List ℤ) (d : ℕ) (r : Bool) : Type 0 where
   pub found : r ≡ repeatedAt ts d
   pub same : r ≡ false → incidence s′ ≡ push ts d (push ts (d + 1) (push ts (d + 2) (incidence s)))
-
-module _ (ts : List ℕ) (s : List ℤ) (d : ℕ) (P : PushingThree ts s d) where
-  pub three-repeated : (r : Bool) → r ≡ repeatedAt ts d → r ≡ true → ThreePushed ts s s d true
-  three-repeated r e t = record { found = sym t ∙ e; same = λ q. clash refl q }
-
-  room : (s′ : List ℤ) (e : ℕ) → e < 3 → length s′ ≡ length s → Counted ts (d + e + 1) (incidence s′) → Pushing ts s′ (d + e)
-  room s′ e h l C = record {
-    dart = omega (arith, P .three);
-    place = omega (arith, P .three, P .darts, l);
-    small = omega (arith, P .three, P .few);
-    vertex = rw l (P .vertex (d + e));
-    number = omega (arith, C (org ts (d + e)), P .few);
-  }
-
-  pub pushing-last : Pushing ts s (d + 2)
-  pushing-last = let z : d + 3 ≡ d + 2 + 1 = omega arith in room s 2 (omega arith) refl (rw z at (P .count))
-
-  module _ (s₁ : List ℤ) (l₁ : length s₁ ≡ length s) (e₁ : incidence s₁ ≡ push ts (d + 2) (incidence s)) where
-    counted₁ : Counted ts (d + 2) (incidence s₁)
-    counted₁ = let z : d + 3 ≡ suc (d + 2) = omega arith in rw e₁ (push-counts ts (d + 2) (incidence s) (rw z at (P .count)))
-
-    pub pushing-middle : Pushing ts s₁ (d + 1)
-    pushing-middle = let z : d + 2 ≡ d + 1 + 1 = omega arith in room s₁ 1 (omega arith) l₁ (rw z at counted₁)
-
-    module _ (s₂ : List ℤ) (l₂ : length s₂ ≡ length s₁) (e₂ : incidence s₂ ≡ push ts (d + 1) (incidence s₁)) where
-      pub pushing-first : Pushing ts s₂ d
-      pushing-first =
-          let z : d + 2 ≡ suc (d + 1) = omega arith in
-          let y : d + 0 ≡ d = omega arith in
-          let w : d + 1 ≡ d + 0 + 1 = omega arith in
-          let C : Counted ts (d + 1) (incidence s₂) = rw e₂ (push-counts ts (d + 1) (incidence s₁) (rw z at counted₁)) in
-          rw y at (room s₂ 0 (omega arith) (l₂ ∙ l₁) (rw w at C))
-
-      pub three-pushed : (r : Bool) → r ≡ repeatedAt ts d → r ≡ false → (s₃ : List ℤ) → incidence s₃ ≡ push ts d (incidence s₂) → ThreePushed ts s s₃ d false
-      three-pushed r e f s₃ e₃ = record { found = sym f ∙ e; same = λ _. e₃ ∙ ap (push ts d) (e₂ ∙ ap (push ts (d + 1)) e₁) }
 
 -- three darts at once
 abbrev three : List ℕ → ℕ → Incidence → Incidence
@@ -83,66 +50,269 @@ three-counts ts d i C =
     rw (b, c) (push-counts ts d (push ts (suc d) (push ts (suc (suc d)) i))
     (push-counts ts (suc d) (push ts (suc (suc d)) i) (push-counts ts (suc (suc d)) i (rw a at C))))
 
-pub record Filled (ts : List ℕ) (s₀ s : List ℤ) (d : ℕ) : Type 0 where
+-- the darts from d on, and below `high`, are in front of what the lists held
+pub record Filled (ts : List ℕ) (s₀ s : List ℤ) (high d : ℕ) : Type 0 where
   pub long : length s ≡ length s₀
   pub first : d % 3 ≡ 0
-  pub low : d ≤ length ts
+  pub low : d ≤ high
+  pub top : high ≤ length ts
   pub count : Counted ts d (incidence s)
-  pub clean : NoLoops ts d
-  pub rest : fill ts d (incidence s) ≡ fill ts (length ts) (incidence s₀)
+  pub clean : NoLoops ts high d
+  pub rest : fill ts d (incidence s) ≡ fill ts high (incidence s₀)
+
+-- what a loop says that fills so far: it has met a vertex twice in a triangle, or they are
+pub record FilledTo (ts : List ℕ) (s₀ s : List ℤ) (high d : ℕ) (r : Bool) : Type 0 where
+  pub found : r ≡ true → row4 ts ≡ true
+  pub filled : r ≡ false → Filled ts s₀ s high d
 
 -- row 4, and the tables where it finds nothing
 pub record AllFilled (ts : List ℕ) (s s′ : List ℤ) (r : Bool) : Type 0 where
   pub found : r ≡ row4 ts
   pub same : r ≡ false → incidence s′ ≡ fill ts (length ts) (incidence s)
 
-pub filled-start : (ts : List ℕ) (s : List ℤ) → Filling ts s → Filled ts s s (length ts)
-filled-start ts s F = record {
-  long = refl;
-  first = F .whole;
-  low = omega arith;
-  count = empty-counts ts (incidence s) (F .empty);
-  clean = λ e h l. absurd (omega arith);
-  rest = refl;
-}
+-- ---- the darts are those of the mesh, the list as lent with its outer triangle in front
 
-module _ (ts : List ℕ) (s₀ s : List ℤ) (d : ℕ) (h : 0 < d) (I : Filled ts s₀ s d) where
-  pub filled-pushing : Filling ts s₀ → PushingThree ts s (d - 3)
-  filled-pushing F =
-      let z : d ≡ d - 3 + 3 = omega (arith, I .first) in
-      record {
-        first = omega (arith, I .first);
-        three = omega (arith, I .first, I .low);
-        few = F .few;
-        darts = rw (I .long) (F .darts);
-        vertex = λ e. rw (I .long) (F .vertex e);
-        count = rw z at (I .count);
-      }
+module _ (outerPlace : ℕ) (ts : List ℕ) where
+  abbrev mesh : List ℕ
+  mesh = fronted outerPlace ts
 
-  module _ (s′ : List ℤ) (r : Bool) (P : ThreePushed ts s s′ (d - 3) r) where
-    low-three : d - 3 + 2 < length ts
-    low-three = omega (arith, I .first, I .low)
+  as-long : length mesh ≡ length ts
+  as-long = length-fronted outerPlace ts
 
-    pub filled-twice : r ≡ true → (s″ : List ℤ) → AllFilled ts s₀ s″ true
-    filled-twice e s″ = record { found = sym (loop-found ts (d - 3) low-three (sym (P .found) ∙ e)); same = λ q. clash refl q }
+  -- the corners are read at `place`
+  module _ (s : List ℤ) (d : ℕ) (P : PushingThree outerPlace ts s d) (place a b c : ℕ) (is : place ≡ listed outerPlace d)
+      (at : a ≡ org ts place) (bt : b ≡ org ts (place + 1)) (ct : c ≡ org ts (place + 2)) where
+    first-is : a ≡ org mesh d
+    first-is =
+        let z : place + 0 ≡ place = omega arith in
+        let y : d + 0 ≡ d = omega arith in
+        rw y at (corner-is P place is 0 a (omega arith) (rw z at))
 
-    pub filled-next : r ≡ false → length s′ ≡ length s → Filled ts s₀ s′ (d - 3)
-    filled-next e l =
-        let z : d ≡ d - 3 + 3 = omega (arith, I .first) in
-        record {
-          long = l ∙ I .long;
-          first = omega (arith, I .first);
-          low = omega (arith, I .low);
-          count = rw (P .same e) (three-counts ts (d - 3) (incidence s) (rw z at (I .count)));
-          clean = loops-none ts (d - 3) low-three (sym (P .found) ∙ e) (rw z at (I .clean));
-          rest = rw (P .same e) (sym (three-fill ts (d - 3) (incidence s)) ∙ (rw z at (I .rest)));
+    second-is : b ≡ org mesh (d + 1)
+    second-is = corner-is P place is 1 b (omega arith) bt
+
+    third-is : c ≡ org mesh (d + 2)
+    third-is = corner-is P place is 2 c (omega arith) ct
+
+    found-is : (r : Bool) → r ≡ repeatedIn a b c → r ≡ repeatedAt mesh d
+    found-is r e = e ∙ repeated-is mesh d a b c (P .first) first-is second-is third-is
+
+    pub three-repeated : (r : Bool) → r ≡ repeatedIn a b c → r ≡ true → ThreePushed mesh s s d true
+    three-repeated r e t = record { found = sym t ∙ found-is r e; same = λ q. clash refl q }
+
+    room : (s′ : List ℤ) (e v : ℕ) → e < 3 → v ≡ org mesh (d + e) → v < 65536 → length s′ ≡ length s → Counted mesh (d + e + 1) (incidence s′)
+        → Pushing s′ (d + e) v
+    room s′ e v h q low l C = record {
+      place = omega (arith, P .three, P .darts, l);
+      small = omega (arith, P .three, P .few);
+      vertex = rw (l, q) (P .vertex (d + e));
+      origin = low;
+      number = omega (arith, C v, as-long, P .few);
+    }
+
+    pub pushing-last : c < 65536 → Pushing s (d + 2) c
+    pushing-last low = let z : d + 3 ≡ d + 2 + 1 = omega arith in room s 2 c (omega arith) third-is low refl (rw z at (P .count))
+
+    module _ (s₁ : List ℤ) (l₁ : length s₁ ≡ length s) (e₁ : incidence s₁ ≡ putFirst (d + 2) c (incidence s)) where
+      put-third : incidence s₁ ≡ push mesh (d + 2) (incidence s)
+      unfolding push
+      put-third = rw (sym third-is) e₁
+
+      counted₁ : Counted mesh (d + 2) (incidence s₁)
+      counted₁ = let z : d + 3 ≡ suc (d + 2) = omega arith in rw put-third (push-counts mesh (d + 2) (incidence s) (rw z at (P .count)))
+
+      pub pushing-middle : b < 65536 → Pushing s₁ (d + 1) b
+      pushing-middle low = let z : d + 2 ≡ d + 1 + 1 = omega arith in room s₁ 1 b (omega arith) second-is low l₁ (rw z at counted₁)
+
+      module _ (s₂ : List ℤ) (l₂ : length s₂ ≡ length s₁) (e₂ : incidence s₂ ≡ putFirst (d + 1) b (incidence s₁)) where
+        put-second : incidence s₂ ≡ push mesh (d + 1) (incidence s₁)
+        unfolding push
+        put-second = rw (sym second-is) e₂
+
+        pub pushing-first : a < 65536 → Pushing s₂ d a
+        pushing-first low =
+            let z : d + 2 ≡ suc (d + 1) = omega arith in
+            let y : d + 0 ≡ d = omega arith in
+            let w : d + 1 ≡ d + 0 + 1 = omega arith in
+            let C : Counted mesh (d + 1) (incidence s₂) = rw put-second (push-counts mesh (d + 1) (incidence s₁) (rw z at counted₁)) in
+            rw y at (room s₂ 0 a (omega arith) (rw y first-is) low (l₂ ∙ l₁) (rw w at C))
+
+        put-first : (s₃ : List ℤ) → incidence s₃ ≡ putFirst d a (incidence s₂) → incidence s₃ ≡ push mesh d (incidence s₂)
+        unfolding push
+        put-first s₃ e₃ = rw (sym first-is) e₃
+
+        pub three-pushed : (r : Bool) → r ≡ repeatedIn a b c → r ≡ false → (s₃ : List ℤ) → incidence s₃ ≡ putFirst d a (incidence s₂)
+            → ThreePushed mesh s s₃ d false
+        three-pushed r e f s₃ e₃ = record {
+          found = sym f ∙ found-is r e;
+          same = λ _. put-first s₃ e₃ ∙ ap (push mesh d) (put-second ∙ ap (push mesh (d + 1)) put-third);
         }
 
-pub filled-all : (ts : List ℕ) (s₀ s : List ℤ) (d : ℕ) → d ≤ 0 → Filled ts s₀ s d → AllFilled ts s₀ s false
-unfolding fill
-filled-all ts s₀ s d h I =
-    let z : d ≡ 0 = omega arith in
-    record { found = sym (no-loops ts (rw z at (I .clean))); same = λ _. rw z at (I .rest) }
+  -- ---- the loops over the triangles behind the outer one, which keep their places, and over those before it, which have each moved by one
+
+  module _ (s₀ : List ℤ) where
+    pub filled-start : (high : ℕ) → Fillable outerPlace ts s₀ high → Filled mesh s₀ s₀ high high
+    filled-start high F = record {
+      long = refl;
+      first = F .whole;
+      low = omega arith;
+      top = omega (arith, F .top, as-long);
+      count = F .count;
+      clean = λ e h m. absurd (omega arith);
+      rest = refl;
+    }
+
+    pub filled-end : (s : List ℤ) (high d low : ℕ) → d ≤ low → low ≤ d → Filled mesh s₀ s high d → FilledTo mesh s₀ s high low false
+    filled-end s high d low h l I = let z : d ≡ low = omega arith in record { found = λ q. clash q refl; filled = λ _. rw z at I }
+
+    -- the next triangle
+    module _ (s : List ℤ) (high d : ℕ) (F : Fillable outerPlace ts s₀ high) (I : Filled mesh s₀ s high d) where
+      pushing : 0 < d → PushingThree outerPlace ts s (d - 3)
+      pushing h =
+          let z : d ≡ d - 3 + 3 = omega (arith, I .first) in
+          record {
+            there = F .there;
+            first = omega (arith, I .first);
+            three = omega (arith, I .first, I .low, F .top);
+            few = F .few;
+            darts = omega (arith, F .darts, I .long);
+            vertex = λ e. rw (I .long) (F .vertex e);
+            count = rw z at (I .count);
+          }
+
+      pub behind-pushing : 3 * outerPlace + 3 < d → PushingAt ts s (d - 3) (d - 3)
+      behind-pushing h = record {
+        outerPlace = outerPlace;
+        room = pushing (omega arith);
+        is = sym (listed-kept outerPlace (d - 3) (omega (arith, I .first)));
+      }
+
+      pub before-pushing : 3 < d → d ≤ 3 * outerPlace + 3 → PushingAt ts s (d - 3 - 3) (d - 3)
+      before-pushing h l = record {
+        outerPlace = outerPlace;
+        room = pushing (omega arith);
+        is = sym (listed-moved outerPlace (d - 3) (omega (arith, I .first)) (omega arith));
+      }
+
+      -- after it
+      module _ (h : 0 < d) (s′ : List ℤ) (r : Bool) (P : ThreePushed mesh s s′ (d - 3) r) where
+        low-three : d - 3 + 2 < length mesh
+        low-three = omega (arith, h, I .first, I .low, I .top)
+
+        twice : r ≡ true → row4 mesh ≡ true
+        twice e = loop-found mesh (d - 3) low-three (sym (P .found) ∙ e)
+
+        next-filled : r ≡ false → length s′ ≡ length s → Filled mesh s₀ s′ high (d - 3)
+        next-filled e l =
+            let z : d ≡ d - 3 + 3 = omega (arith, h, I .first) in
+            record {
+              long = l ∙ I .long;
+              first = omega (arith, I .first);
+              low = omega (arith, I .low);
+              top = I .top;
+              count = rw (P .same e) (three-counts mesh (d - 3) (incidence s) (rw z at (I .count)));
+              clean = loops-none mesh (d - 3) low-three high (sym (P .found) ∙ e) (rw z at (I .clean));
+              rest = rw (P .same e) (sym (three-fill mesh (d - 3) (incidence s)) ∙ (rw z at (I .rest)));
+            }
+
+      module _ (h : 3 * outerPlace + 3 < d) (s′ : List ℤ) (r : Bool)
+          (P : (A : PushingAt ts s (d - 3) (d - 3)) → ThreePushed (fronted (A .outerPlace) ts) s s′ (d - 3) r) where
+        pub behind-twice : r ≡ true → (s″ : List ℤ) (low : ℕ) → FilledTo mesh s₀ s″ high low true
+        unfolding behind-pushing
+        behind-twice e s″ low = record { found = λ _. twice (omega arith) s′ r (P (behind-pushing h)) e; filled = λ q. clash refl q }
+
+        pub behind-next : r ≡ false → length s′ ≡ length s → Filled mesh s₀ s′ high (d - 3)
+        unfolding behind-pushing
+        behind-next e l = next-filled (omega arith) s′ r (P (behind-pushing h)) e l
+
+      module _ (h : 3 < d) (m : d ≤ 3 * outerPlace + 3) (s′ : List ℤ) (r : Bool)
+          (P : (A : PushingAt ts s (d - 3 - 3) (d - 3)) → ThreePushed (fronted (A .outerPlace) ts) s s′ (d - 3) r) where
+        pub before-twice : r ≡ true → (s″ : List ℤ) (low : ℕ) → FilledTo mesh s₀ s″ high low true
+        unfolding before-pushing
+        before-twice e s″ low = record { found = λ _. twice (omega arith) s′ r (P (before-pushing h m)) e; filled = λ q. clash refl q }
+
+        pub before-next : r ≡ false → length s′ ≡ length s → Filled mesh s₀ s′ high (d - 3)
+        unfolding before-pushing
+        before-next e l = next-filled (omega arith) s′ r (P (before-pushing h m)) e l
+
+  -- ---- all triangles: those behind the outer one, those before it, and the outer one
+
+  module _ (s₀ : List ℤ) (R : (3 * outerPlace + 3 ≤ length ts) × Filling mesh s₀) where
+    pub can-fill-behind : Fillable outerPlace ts s₀ (length ts)
+    can-fill-behind =
+        let F = R .1 in
+        record {
+          there = R .0;
+          whole = omega (arith, F .whole, as-long);
+          top = omega arith;
+          few = omega (arith, F .few, as-long);
+          darts = omega (arith, F .darts, as-long);
+          vertex = F .vertex;
+          count = λ v. omega (arith, empty-counts mesh (incidence s₀) (F .empty) v, as-long);
+        }
+
+    module _ (s₁ : List ℤ) (r₁ : Bool) (A : FilledTo mesh s₀ s₁ (length ts) (3 * outerPlace + 3) r₁) where
+      pub behind-found : r₁ ≡ true → (s : List ℤ) → AllFilled mesh s₀ s true
+      behind-found e s = record { found = sym (A .found e); same = λ q. clash refl q }
+
+      module _ (e₁ : r₁ ≡ false) where
+        pub can-fill-before : Fillable outerPlace ts s₁ (3 * outerPlace + 3)
+        can-fill-before =
+            let I = A .filled e₁ in
+            record {
+              there = R .0;
+              whole = I .first;
+              top = R .0;
+              few = can-fill-behind .few;
+              darts = omega (arith, can-fill-behind .darts, I .long);
+              vertex = λ d. rw (I .long) (can-fill-behind .vertex d);
+              count = I .count;
+            }
+
+        module _ (s₂ : List ℤ) (r₂ : Bool) (B : FilledTo mesh s₁ s₂ (3 * outerPlace + 3) 3 r₂) where
+          pub before-found : r₂ ≡ true → (s : List ℤ) → AllFilled mesh s₀ s true
+          before-found e s = record { found = sym (B .found e); same = λ q. clash refl q }
+
+          module _ (e₂ : r₂ ≡ false) where
+            both : Filled mesh s₀ s₂ (length ts) 3
+            both =
+                let I = A .filled e₁ in
+                let J = B .filled e₂ in
+                record {
+                  long = J .long ∙ I .long;
+                  first = J .first;
+                  low = omega (arith, R .0);
+                  top = I .top;
+                  count = J .count;
+                  clean = λ e h l. elim (decLt e (3 * outerPlace + 3)) [ yes k ↦ J .clean e h k | no k ↦ I .clean e (omega (arith, k)) l ];
+                  rest = J .rest ∙ I .rest;
+                }
+
+            outer-room : PushingThree outerPlace ts s₂ 0
+            outer-room = pushing s₀ s₂ (length ts) 3 can-fill-behind both (omega arith)
+
+            pub outer-pushing : PushingAt ts s₂ (3 * outerPlace) 0
+            outer-pushing = record { outerPlace = outerPlace; room = outer-room; is = omega (arith, listed-outer outerPlace 0 (omega arith)) }
+
+            pub outer-pushed : (s₃ : List ℤ) (r : Bool) → length s₃ ≡ length s₂
+                → ((P : PushingAt ts s₂ (3 * outerPlace) 0) → ThreePushed (fronted (P .outerPlace) ts) s₂ s₃ 0 r) → AllFilled mesh s₀ s₃ r
+            unfolding fill outer-pushing
+            outer-pushed s₃ r l E = go r refl
+              where
+                P : ThreePushed mesh s₂ s₃ 0 r
+                P = E outer-pushing
+
+                go : (b : Bool) → r ≡ b → AllFilled mesh s₀ s₃ r
+                go true e = record {
+                  found = e ∙ sym (twice s₀ s₂ (length ts) 3 can-fill-behind both (omega arith) s₃ r P e);
+                  same = λ q. clash e q;
+                }
+                go false e =
+                    let I = next-filled s₀ s₂ (length ts) 3 can-fill-behind both (omega arith) s₃ r P e l in
+                    record {
+                      found = e ∙ sym (no-loops mesh (rw as-long (I .clean)));
+                      same = λ _. I .rest ∙ ap (λ (k : ℕ). fill mesh k (incidence s₀)) (sym as-long);
+                    }
 
 -- ---- tables that differ in one table only
 

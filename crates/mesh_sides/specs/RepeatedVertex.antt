@@ -33,25 +33,34 @@ next-2 : (d : ℕ) → d % 3 ≡ 0 → next (d + 2) ≡ d
 unfolding next
 next-2 d h = let r : (d + 2) % 3 ≡ 2 = omega arith in omega arith
 
-module _ (ts : List ℕ) (d a b c : ℕ) (first : d % 3 ≡ 0) (at : a ≡ org ts d) (bt : b ≡ org ts (d + 1)) (ct : c ≡ org ts (d + 2)) where
-  doubled-is : repeatedAt ts d ≡ (eqb a b || (eqb b c || eqb c a))
-  unfolding repeatedAt tip
-  doubled-is = rw (next-0 d first, next-1 d first, next-2 d first, at, bt, ct)
+-- two of three corners are one vertex
+unfoldable pub repeatedIn : ℕ → ℕ → ℕ → Bool
+repeatedIn a b c = eqb a b || (eqb b c || eqb c a)
 
-  pub doubled-1 : a ≡ b → true ≡ repeatedAt ts d
-  doubled-1 e = sym (doubled-is ∙ ap (λ (q : Bool). q || (eqb b c || eqb c a)) (eq-eqb a b e))
+module _ (a b c : ℕ) where
+  pub repeated-1 : a ≡ b → true ≡ repeatedIn a b c
+  unfolding repeatedIn
+  repeated-1 e = rw (eq-eqb a b e)
 
-  pub doubled-2 : (a ≡ b → ⊥) → b ≡ c → true ≡ repeatedAt ts d
-  doubled-2 f e = sym (doubled-is ∙ rw (ne-eqb a b f, eq-eqb b c e))
+  pub repeated-2 : (a ≡ b → ⊥) → b ≡ c → true ≡ repeatedIn a b c
+  unfolding repeatedIn
+  repeated-2 f e = rw (ne-eqb a b f, eq-eqb b c e)
 
-  pub doubled-3 : (a ≡ b → ⊥) → (b ≡ c → ⊥) → eqb c a ≡ repeatedAt ts d
-  doubled-3 f g = sym (doubled-is ∙ rw (ne-eqb a b f, ne-eqb b c g))
+  pub repeated-3 : (a ≡ b → ⊥) → (b ≡ c → ⊥) → eqb c a ≡ repeatedIn a b c
+  unfolding repeatedIn
+  repeated-3 f g = rw (ne-eqb a b f, ne-eqb b c g)
+
+-- which is so just where one of the three darts of their triangle runs from a vertex to itself
+pub repeated-is : (ts : List ℕ) (d a b c : ℕ) → d % 3 ≡ 0 → a ≡ org ts d → b ≡ org ts (d + 1) → c ≡ org ts (d + 2)
+    → repeatedIn a b c ≡ repeatedAt ts d
+unfolding repeatedAt repeatedIn tip
+repeated-is ts d a b c first at bt ct = rw (next-0 d first, next-1 d first, next-2 d first, at, bt, ct)
 
 -- ---- triangle by triangle, the last one first
 
--- no dart from d on runs from a vertex to itself
-abbrev pub NoLoops : List ℕ → ℕ → Type 0
-NoLoops ts d = (e : ℕ) → d ≤ e → e < length ts → loops ts e ≡ false
+-- no dart from d on, and below `high`, runs from a vertex to itself
+abbrev pub NoLoops : List ℕ → ℕ → ℕ → Type 0
+NoLoops ts high d = (e : ℕ) → d ≤ e → e < high → loops ts e ≡ false
 
 module _ (ts : List ℕ) (d : ℕ) (low : d + 2 < length ts) where
   pub loop-found : repeatedAt ts d ≡ true → row4 ts ≡ true
@@ -65,9 +74,9 @@ module _ (ts : List ℕ) (d : ℕ) (low : d + 2 < length ts) where
         ]
       ]
 
-  pub loops-none : repeatedAt ts d ≡ false → NoLoops ts (d + 3) → NoLoops ts d
+  pub loops-none : (high : ℕ) → repeatedAt ts d ≡ false → NoLoops ts high (d + 3) → NoLoops ts high d
   unfolding repeatedAt
-  loops-none e later x h l =
+  loops-none high e later x h l =
       elim (tested (loops ts d)) [
         | inl p ↦ let f : true ≡ false = rw p at e in clash refl f
         | inr p ↦ elim (tested (loops ts (d + 1))) [
@@ -86,6 +95,6 @@ module _ (ts : List ℕ) (d : ℕ) (low : d + 2 < length ts) where
         ]
       ]
 
-pub no-loops : (ts : List ℕ) → NoLoops ts 0 → row4 ts ≡ false
+pub no-loops : (ts : List ℕ) → NoLoops ts (length ts) 0 → row4 ts ≡ false
 unfolding row4 darts
 no-loops ts f = false-any (loops ts) (upto (length ts)) (λ e m. f e (omega arith) (upto-in (length ts) m))

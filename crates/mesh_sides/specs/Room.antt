@@ -1,38 +1,95 @@
 -- What the functions of rows 3 to 6 ask of the lent slices: entries that are read and stored are in range. Assumes nothing.
-use Prim.Native.Nat.{ℕ, _+_, _*_, _%_, _≤_, _<_, _^_}
-use mathlib.Core.Path.{_≡_, ap, _∙_}
+use Prim.Native.Nat.{ℕ, _+_, _-_, _*_, _%_, _≤_, _<_, _^_}
+use mathlib.Core.Path.{_≡_, sym, ap, _∙_}
 use mathlib.Core.List.{List}
 use native.Mathlib.Omega.{arith}
+use native.Mathlib.Decide.{decLt}
 use lib.ListN.{length}
 use lib.IntN.{ℤ}
-use Rattle.definitions.specs.Mesh.{next, prev, org}
+use Rattle.definitions.specs.Mesh.{next, prev, org, fronted}
+use Rattle.theory_sphere.specs.Fronted.{listed, listed-outer, listed-moved, listed-kept, org-fronted}
 use Rattle.scratch_tables.specs.Tables.{column, pastDarts, dartIn, vertexIn}
 use Rattle.mesh_tables.specs.Incidence.{incidence, setDart, setList}
-use Rattle.mesh_model.specs.IncidenceLists.{Empty, Counted, push, fill}
+use Rattle.mesh_model.specs.IncidenceLists.{Empty, Counted, putFirst, fill}
 use Rattle.mesh_model.specs.Bounds.{Bounded, bounded-next, bounded-prev, fill-bounded}
 
 -- ---- the lists are filled
 
--- dart d has room in front of its origin's list
-pub record Pushing (ts : List ℕ) (s : List ℤ) (d : ℕ) : Type 0 where
-  pub dart : d < length ts
+-- dart d has room in front of the list of v
+pub record Pushing (s : List ℤ) (d v : ℕ) : Type 0 where
   pub place : dartIn (length s) d
   pub small : d < 65536
-  pub vertex : vertexIn (length s) (org ts d)
-  pub number : incidence s .number (org ts d) + 1 < 65536
+  pub vertex : vertexIn (length s) v
+  pub origin : v < 65536
+  pub number : incidence s .number v + 1 < 65536
 
--- the number of its origin's darts, as the code reads it
-pub pushing-number : (ts : List ℕ) (s : List ℤ) (d v k : ℕ) → Pushing ts s d → v ≡ org ts d → k ≡ incidence s .number v → k + 1 < 65536
-pushing-number ts s d v k P q r = let o : k ≡ incidence s .number (org ts d) = r ∙ ap (incidence s .number) q in rw o (P .number)
+-- the number of the darts of v, as the code reads it
+pub pushing-number : (s : List ℤ) (d v k : ℕ) → Pushing s d v → k ≡ incidence s .number v → k + 1 < 65536
+pushing-number s d v k P r = rw r (P .number)
 
--- the three darts from d on have
-pub record PushingThree (ts : List ℕ) (s : List ℤ) (d : ℕ) : Type 0 where
+-- the two stores that put a dart in front
+pub pushed : (d : ℕ) (s s₁ s₂ : List ℤ) (v f k : ℕ) → f ≡ incidence s .first v → k ≡ incidence s .number v
+    → incidence s₁ ≡ setDart d f v (incidence s) → incidence s₂ ≡ setList v d (k + 1) (incidence s₁)
+    → incidence s₂ ≡ putFirst d v (incidence s)
+pushed d s s₁ s₂ v f k b c x y = rw (y, x, b, c)
+
+-- The three darts from d on have, in the mesh whose outer triangle is in front.
+pub record PushingThree (outerPlace : ℕ) (ts : List ℕ) (s : List ℤ) (d : ℕ) : Type 0 where
+  pub there : 3 * outerPlace + 3 ≤ length ts
   pub first : d % 3 ≡ 0
   pub three : d + 3 ≤ length ts
   pub few : length ts < 65536
   pub darts : length ts ≤ pastDarts (length s)
-  pub vertex : (e : ℕ) → vertexIn (length s) (org ts e)
-  pub count : Counted ts (d + 3) (incidence s)
+  pub vertex : (e : ℕ) → vertexIn (length s) (org (fronted outerPlace ts) e)
+  pub count : Counted (fronted outerPlace ts) (d + 3) (incidence s)
+
+-- their corners, as the code reads them from the list as lent
+module _ {outerPlace : ℕ} {ts : List ℕ} {s : List ℤ} {d : ℕ} (P : PushingThree outerPlace ts s d) (place : ℕ) (is : place ≡ listed outerPlace d) where
+  pub corners-there : place + 2 < length ts
+  corners-there = rw is (go (decLt d 3))
+    where
+      go : Dec (d < 3) → listed outerPlace d + 2 < length ts
+      go (yes h) = omega (arith, P .there, P .first, listed-outer outerPlace d h)
+      go (no h) = elim (decLt d (3 * outerPlace + 3)) [
+        | yes l ↦ omega (arith, h, P .three, listed-moved outerPlace d (omega (arith, h)) l)
+        | no l ↦ omega (arith, P .three, listed-kept outerPlace d (omega (arith, l)))
+      ]
+
+  -- the three darts of a triangle stand together
+  together : (e : ℕ) → e < 3 → listed outerPlace (d + e) ≡ place + e
+  together e h = rw is (go (decLt d 3))
+    where
+      go : Dec (d < 3) → listed outerPlace (d + e) ≡ listed outerPlace d + e
+      go (yes l) = omega (arith, P .first, listed-outer outerPlace d l, listed-outer outerPlace (d + e) (omega (arith, P .first)))
+      go (no l) = elim (decLt d (3 * outerPlace + 3)) [
+        | yes m ↦
+            omega (
+              arith,
+              l,
+              listed-moved outerPlace d (omega (arith, l)) m,
+              listed-moved outerPlace (d + e) (omega (arith, l)) (omega (arith, P .first)),
+            )
+        | no m ↦ omega (arith, listed-kept outerPlace d (omega (arith, m)), listed-kept outerPlace (d + e) (omega (arith, m)))
+      ]
+
+  pub corner-is : (e v : ℕ) → e < 3 → v ≡ org ts (place + e) → v ≡ org (fronted outerPlace ts) (d + e)
+  corner-is e v h q = q ∙ sym (org-fronted outerPlace ts (P .there) (d + e) ∙ ap (org ts) (together e h))
+
+-- The code has them at `place`.
+pub record PushingAt (ts : List ℕ) (s : List ℤ) (place d : ℕ) : Type 0 where
+  pub outerPlace : ℕ
+  pub room : PushingThree outerPlace ts s d
+  pub is : place ≡ listed outerPlace d
+
+-- The darts below `high` have, and the lists hold those from there on at most.
+pub record Fillable (outerPlace : ℕ) (ts : List ℕ) (s : List ℤ) (high : ℕ) : Type 0 where
+  pub there : 3 * outerPlace + 3 ≤ length ts
+  pub whole : high % 3 ≡ 0
+  pub top : high ≤ length ts
+  pub few : length ts < 65536
+  pub darts : length ts ≤ pastDarts (length s)
+  pub vertex : (d : ℕ) → vertexIn (length s) (org (fronted outerPlace ts) d)
+  pub count : Counted (fronted outerPlace ts) high (incidence s)
 
 -- every dart has, and the lists are empty
 pub record Filling (ts : List ℕ) (s : List ℤ) : Type 0 where
@@ -41,13 +98,6 @@ pub record Filling (ts : List ℕ) (s : List ℤ) : Type 0 where
   pub darts : length ts ≤ pastDarts (length s)
   pub vertex : (d : ℕ) → vertexIn (length s) (org ts d)
   pub empty : Empty (incidence s)
-
--- the two stores that put a dart in front
-pub pushed : (ts : List ℕ) (d : ℕ) (s s₁ s₂ : List ℤ) (v f k : ℕ) → v ≡ org ts d → f ≡ incidence s .first v → k ≡ incidence s .number v
-    → incidence s₁ ≡ setDart d f v (incidence s) → incidence s₂ ≡ setList v d (k + 1) (incidence s₁)
-    → incidence s₂ ≡ push ts d (incidence s)
-unfolding push
-pushed ts d s s₁ s₂ v f k a b c x y = rw (y, x, b, c, a)
 
 -- ---- the sides are matched
 

@@ -14,14 +14,14 @@ use mesh_tables::turn;
 use scratch_tables::next_dart;
 use scratch_tables::prev_dart;
 ghost use mathlib.Core.Path.{_≡_};
-ghost use Prim.Native.Nat.{_+_, _%_, _<_, max};
+ghost use Prim.Native.Nat.{_+_, _*_, _≤_, _<_, max};
 ghost use lib.ListN.{length};
-ghost use Rattle.definitions.specs.Mesh.{next, prev, org, row3};
+ghost use Rattle.definitions.specs.Mesh.{next, prev, org, row3, fronted};
 ghost use Rattle.mesh_tables.specs.Incidence.{incidence};
-ghost use Rattle.mesh_model.specs.IncidenceLists.{push};
-ghost use Rattle.mesh_sides.specs.Room.{Pushing, PushingThree, Filling, Beside, AtVertex, Ready};
-ghost use Rattle.mesh_sides.specs.LoopInvariants.{ThreePushed, AllFilled, Left, Marked, Scanned, Met, Tied, AllMatched};
-ghost use Rattle.mesh_sides.specs.RepeatedVertex.{repeatedAt};
+ghost use Rattle.mesh_model.specs.IncidenceLists.{putFirst};
+ghost use Rattle.mesh_sides.specs.Room.{Pushing, PushingAt, Fillable, Filling, Beside, AtVertex, Ready};
+ghost use Rattle.mesh_sides.specs.LoopInvariants.{ThreePushed, FilledTo, AllFilled, Left, Marked, Scanned, Met, Tied, AllMatched};
+ghost use Rattle.mesh_sides.specs.RepeatedVertex.{repeatedIn};
 
 // the vertex at corner d
 fn corner(triangles: &[u16], d: usize) -> usize
@@ -53,14 +53,10 @@ pub fn high_vertex(n: usize, triangles: &[u16]) -> bool
     n <= int64::widen(highest)
 }
 
-// A vertex is twice in the triangle of which d is the first dart.
-fn repeated_at(triangles: &[u16], d: usize) -> bool
-    requires { ⌜ (d % 3 ≡ 0) × (d + 2 < length (now triangles)) ⌝ }
-    ensures { λ r. ⌜ r ≡ repeatedAt (now (triangles .entry)) d ⌝ }
+// Two of the three corners of a triangle are one vertex.
+fn repeated(a: usize, b: usize, c: usize) -> bool
+    ensures { λ r. ⌜ r ≡ repeatedIn a b c ⌝ }
 {
-    let a = corner(triangles, d);
-    let b = corner(triangles, d + 1);
-    let c = corner(triangles, d + 2);
     if a == b {
         return true;
     }
@@ -70,45 +66,80 @@ fn repeated_at(triangles: &[u16], d: usize) -> bool
     c == a
 }
 
-// Dart d goes to the front of its origin's list.
-fn push_dart(triangles: &[u16], s: &mut [i64], d: usize)
-    requires { ⌜ Pushing (now triangles) (now s) d ⌝ }
-    ensures { λ r. ⌜ incidence (now (s .exit)) ≡ push (now (triangles .entry)) d (incidence (now (s .entry))) ⌝ }
+// Dart d goes to the front of the list of v, its origin.
+fn push_dart(s: &mut [i64], d: usize, v: usize)
+    requires { ⌜ Pushing (now s) d v ⌝ }
+    ensures { λ r. ⌜ incidence (now (s .exit)) ≡ putFirst d v (incidence (now (s .entry))) ⌝ }
 {
-    let v = corner(triangles, d);
     let first = first_dart(s, v);
     let number = dart_number(s, v);
     set_dart(s, d, first, v);
     set_list(s, v, d, number + 1);
 }
 
-// The darts of the triangle of which d is the first go to the front of their origins' lists, unless a vertex is twice in it: then the answer is true.
-fn push_triangle(triangles: &[u16], s: &mut [i64], d: usize) -> bool
-    requires { ⌜ PushingThree (now triangles) (now s) d ⌝ }
-    ensures { λ r. ⌜ ThreePushed (now (triangles .entry)) (now (s .entry)) (now (s .exit)) d r ⌝ }
+// The darts of the triangle that stands at `place`, from d on, go to the front of their origins' lists, unless a vertex is twice in it: then the answer
+// is true.
+fn push_triangle(triangles: &[u16], s: &mut [i64], place: usize, d: usize) -> bool
+    requires { ⌜ PushingAt (now triangles) (now s) place d ⌝ }
+    ensures { λ r. ⌜ ((P : PushingAt (now (triangles .entry)) (now (s .entry)) place d) →
+        ThreePushed (fronted (P .outerPlace) (now (triangles .entry))) (now (s .entry)) (now (s .exit)) d r) ⌝ }
 {
-    if repeated_at(triangles, d) {
+    let a = corner(triangles, place);
+    let b = corner(triangles, place + 1);
+    let c = corner(triangles, place + 2);
+    if repeated(a, b, c) {
         return true;
     }
-    push_dart(triangles, s, d + 2);
-    push_dart(triangles, s, d + 1);
-    push_dart(triangles, s, d);
+    push_dart(s, d + 2, c);
+    push_dart(s, d + 1, b);
+    push_dart(s, d, a);
     false
 }
 
-// Row 4, a vertex twice in a triangle; or the lists of darts by origin, each in the order of the darts.
-pub fn fill_incidence_lists(triangles: &[u16], s: &mut [i64]) -> bool
-    requires { ⌜ Filling (now triangles) (now s) ⌝ }
-    ensures { λ r. ⌜ AllFilled (now (triangles .entry)) (now (s .entry)) (now (s .exit)) r ⌝ }
+// The triangles behind the outer one keep their places.
+fn fill_behind(outer: usize, triangles: &[u16], s: &mut [i64]) -> bool
+    requires { ⌜ Fillable outer (now triangles) (now s) (length (now triangles)) ⌝ }
+    ensures { λ r. ⌜ FilledTo (fronted outer (now (triangles .entry))) (now (s .entry)) (now (s .exit)) (length (now (triangles .entry)))
+        (3 * outer + 3) r ⌝ }
 {
     let mut d = triangles.len();
-    while 0 < d {
+    while 3 * outer + 3 < d {
         d -= 3;
-        if push_triangle(triangles, s, d) {
+        if push_triangle(triangles, s, d, d) {
             return true;
         }
     }
     false
+}
+
+// Those before it have each moved by one.
+fn fill_before(outer: usize, triangles: &[u16], s: &mut [i64]) -> bool
+    requires { ⌜ Fillable outer (now triangles) (now s) (3 * outer + 3) ⌝ }
+    ensures { λ r. ⌜ FilledTo (fronted outer (now (triangles .entry))) (now (s .entry)) (now (s .exit)) (3 * outer + 3) 3 r ⌝ }
+{
+    let mut d = 3 * outer + 3;
+    while 3 < d {
+        d -= 3;
+        if push_triangle(triangles, s, d - 3, d) {
+            return true;
+        }
+    }
+    false
+}
+
+// Row 4, a vertex twice in a triangle; or the lists of darts by origin, each in the order of the darts. The darts are those of the mesh with its outer
+// triangle in front: from here on nothing knows of another order.
+pub fn fill_incidence_lists(outer: usize, triangles: &[u16], s: &mut [i64]) -> bool
+    requires { ⌜ (3 * outer + 3 ≤ length (now triangles)) × Filling (fronted outer (now triangles)) (now s) ⌝ }
+    ensures { λ r. ⌜ AllFilled (fronted outer (now (triangles .entry))) (now (s .entry)) (now (s .exit)) r ⌝ }
+{
+    if fill_behind(outer, triangles, s) {
+        return true;
+    }
+    if fill_before(outer, triangles, s) {
+        return true;
+    }
+    push_triangle(triangles, s, 3 * outer, 0)
 }
 
 // Dart e, which leaves v, leaves its mark where it leads; true, where a mark of v is there already.

@@ -1,5 +1,5 @@
-// The repair call: rows 1 to 8, then 9; then, while some inner triangle is flat or turned, the lowest-numbered one is raised. A raise touches the vertices that
-// it moves and the triangles on the raised one's three walks, which are at most linear in n.
+// The repair call: rows 1, 2, 21 and 3 to 9; then, while some inner triangle is flat or turned, the lowest-numbered one is raised. A raise touches the
+// vertices that it moves and the triangles on the raised one's three walks, which are at most linear in n.
 use labels_call::label_mesh;
 use lent_slices::map_rows;
 use mesh_answer::MeshAnswer;
@@ -32,19 +32,20 @@ fn ended(end: Ended) -> RepairAnswer
     }
 }
 
-// from row 3 on; nothing is said of scratch, which the call clears
+// from row 21 on; nothing is said of scratch, which the call clears
 fn run_repair(
     n: usize,
+    outer: usize,
     triangles: &[u16],
     weights: &mut [i64],
     coordinates: &mut [i64],
     scratch: &mut [i64],
 ) -> RepairAnswer
     requires { ⌜ Lengths n (length (now triangles)) (length (now scratch)) (length (now weights)) (length (now coordinates)) ⌝ }
-    ensures { λ r. ⌜ Given n (now (triangles .entry)) (now (weights .entry)) (now (coordinates .entry)) (now (scratch .entry)) (repairToAnswer r)
+    ensures { λ r. ⌜ Given n outer (now (triangles .entry)) (now (weights .entry)) (now (coordinates .entry)) (now (scratch .entry)) (repairToAnswer r)
         (now (weights .exit)) (now (coordinates .exit)) ⌝ }
 {
-    let labelled = label_mesh(n, triangles, scratch);
+    let labelled = label_mesh(n, outer, triangles, scratch);
     let MeshAnswer::Accepted = labelled else {
         return RepairAnswer::Refused(refusal_of(labelled));
     };
@@ -55,23 +56,24 @@ fn run_repair(
     ended(end)
 }
 
-// The public call. Scratch is as lent after 1 and 2, and holds zeros after every other answer. Weights and coordinates are as lent after a refusal with
-// 1 to 9; after 13 the weights are as after the last full raise, and the coordinates are theirs.
+// The public call. Scratch is as lent after 1 and 2, and holds zeros after every other answer. Weights and coordinates are as lent after every
+// refusal but 13; after that the weights are as after the last full raise, and the coordinates are theirs.
 pub fn repair(
     n: usize,
+    outer: usize,
     triangles: &[u16],
     weights: &mut [i64],
     coordinates: &mut [i64],
     scratch: &mut [i64],
 ) -> RepairAnswer
     ensures answer { λ r. ⌜ repairToAnswer r ≡
-        repairCall n (now (triangles .entry)) (now (weights .entry)) (now (coordinates .entry)) (now (scratch .entry)) .answer ⌝ }
+        repairCall n outer (now (triangles .entry)) (now (weights .entry)) (now (coordinates .entry)) (now (scratch .entry)) .answer ⌝ }
     ensures weights { λ r. ⌜ now (weights .exit) ≡
-        repairCall n (now (triangles .entry)) (now (weights .entry)) (now (coordinates .entry)) (now (scratch .entry)) .weights ⌝ }
+        repairCall n outer (now (triangles .entry)) (now (weights .entry)) (now (coordinates .entry)) (now (scratch .entry)) .weights ⌝ }
     ensures coordinates { λ r. ⌜ now (coordinates .exit) ≡
-        repairCall n (now (triangles .entry)) (now (weights .entry)) (now (coordinates .entry)) (now (scratch .entry)) .coordinates ⌝ }
+        repairCall n outer (now (triangles .entry)) (now (weights .entry)) (now (coordinates .entry)) (now (scratch .entry)) .coordinates ⌝ }
     ensures scratch { λ r. ⌜ now (scratch .exit) ≡
-        repairCall n (now (triangles .entry)) (now (weights .entry)) (now (coordinates .entry)) (now (scratch .entry)) .scratch ⌝ }
+        repairCall n outer (now (triangles .entry)) (now (weights .entry)) (now (coordinates .entry)) (now (scratch .entry)) .scratch ⌝ }
 {
     let number = map_rows(
         n,
@@ -83,7 +85,7 @@ pub fn repair(
     if number != 0 {
         return RepairAnswer::Refused(Refusal::Numbered(number));
     }
-    let answer = run_repair(n, triangles, weights, coordinates, scratch);
+    let answer = run_repair(n, outer, triangles, weights, coordinates, scratch);
     clear(scratch);
     answer
 }

@@ -43,7 +43,14 @@ fn case(a: i64, b: i64, c: i64) {
     let mut weights = [a, b, c];
     let mut coordinates = [0i64; 12];
     let mut scratch = [0i64; 40];
-    let answer = repair_call::repair(4, &triangles, &mut weights, &mut coordinates, &mut scratch);
+    let answer = repair_call::repair(
+        4,
+        0,
+        &triangles,
+        &mut weights,
+        &mut coordinates,
+        &mut scratch,
+    );
     io::print_decimal(STDOUT_FILENO, number(answer));
     space();
     io::print_decimal(STDOUT_FILENO, count(answer));

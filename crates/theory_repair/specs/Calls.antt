@@ -7,7 +7,7 @@ use mathlib.Core.Option.{Option, none, some}
 use native.Mathlib.Omega.{arith}
 use lib.ListN.{length}
 use lib.IntN.{ℤ}
-use Rattle.definitions.specs.Mesh.{weightsLength, coordinatesLength}
+use Rattle.definitions.specs.Mesh.{weightsLength, coordinatesLength, fronted}
 use Rattle.definitions.specs.Labels.{labels}
 use Rattle.definitions.specs.Forward.{forward}
 use Rattle.definitions.specs.Repair.{Ending, finished, stopped, outOfFuel, repair}
@@ -53,46 +53,50 @@ FromRows (shareOutside share) = ⊥
 FromRows (lineBroken line) = ⊥
 
 -- the parts of the call's outcome, by what the rows found
-module _ (n : ℕ) (ts : List ℕ) (ws bs scratch : List ℤ) where
+module _ (n outerPlace : ℕ) (ts : List ℕ) (ws bs scratch : List ℤ) where
+  -- the mesh as it is read
+  abbrev mesh : List ℕ
+  mesh = fronted outerPlace ts
+
   abbrev pub found : Option Refusal
-  found = callRefusal n ts scratch (slice (length ws) (weightsLength n) ∷ slice (length bs) (coordinatesLength n) ∷ []) (row 9 (λ _. row9 ws) ∷ [])
+  found = callRefusal n outerPlace ts scratch (slice (length ws) (weightsLength n) ∷ slice (length bs) (coordinatesLength n) ∷ []) (row 9 (λ _. row9 ws) ∷ [])
 
   abbrev pub answerAt : Option Refusal → Answer ℕ
   answerAt o =
       elim o [
-        | none ↦ repairAnswer (repair n ts (labels n ts) ws .ending) (length (repair n ts (labels n ts) ws .raises))
+        | none ↦ repairAnswer (repair n mesh (labels n mesh) ws .ending) (length (repair n mesh (labels n mesh) ws .raises))
         | some why ↦ refused why
       ]
 
   abbrev pub weightsAt : Option Refusal → List ℤ
-  weightsAt o = elim o [ none ↦ repair n ts (labels n ts) ws .weights | some why ↦ ws ]
+  weightsAt o = elim o [ none ↦ repair n mesh (labels n mesh) ws .weights | some why ↦ ws ]
 
   abbrev pub coordinatesAt : Option Refusal → List ℤ
-  coordinatesAt o = elim o [ none ↦ forward n ts (labels n ts) (repair n ts (labels n ts) ws .weights) | some why ↦ bs ]
+  coordinatesAt o = elim o [ none ↦ forward n mesh (labels n mesh) (repair n mesh (labels n mesh) ws .weights) | some why ↦ bs ]
 
-  pub call-answer : repairCall n ts ws bs scratch .answer ≡ answerAt found
+  pub call-answer : repairCall n outerPlace ts ws bs scratch .answer ≡ answerAt found
   unfolding repairCall
   call-answer = refl
 
-  pub call-weights : repairCall n ts ws bs scratch .weights ≡ weightsAt found
+  pub call-weights : repairCall n outerPlace ts ws bs scratch .weights ≡ weightsAt found
   unfolding repairCall
   call-weights = refl
 
-  pub call-coordinates : repairCall n ts ws bs scratch .coordinates ≡ coordinatesAt found
+  pub call-coordinates : repairCall n outerPlace ts ws bs scratch .coordinates ≡ coordinatesAt found
   unfolding repairCall
   call-coordinates = refl
 
   -- a call that goes on was lent an accepted mesh, and as many weights as it has inner triangles
-  pub found-accepted : found ≡ none → Accepted n ts × (length ws ≡ weightsLength n)
+  pub found-accepted : found ≡ none → Accepted n mesh × (length ws ≡ weightsLength n)
   found-accepted e =
       let own = row 9 (λ _. row9 ws) ∷ [] in
       let slices = slice (length bs) (coordinatesLength n) ∷ [] in
-      let r = callRefusal-none n ts scratch (slice (length ws) (weightsLength n) ∷ slices) own e in
-      (r .0, row2-cons (length ws) (weightsLength n) slices .0 (r .2) .0)
+      let r = callRefusal-none n outerPlace ts scratch (slice (length ws) (weightsLength n) ∷ slices) own e in
+      (r .1, row2-cons (length ws) (weightsLength n) slices .0 (r .3) .0)
 
   -- The rows refuse with a number that is not 0, or with a vertex, and never with a count.
   pub found-only : (why : Refusal) → found ≡ some why → FromRows why
   found-only =
       let slices = slice (length ws) (weightsLength n) ∷ slice (length bs) (coordinatesLength n) ∷ [] in
-      callRefusal-only n ts scratch slices (row 9 (λ _. row9 ws) ∷ []) FromRows (λ k h. h) (λ v. tt) (λ v. tt)
+      callRefusal-only n outerPlace ts scratch slices (row 9 (λ _. row9 ws) ∷ []) FromRows (λ k h. h) (λ v. tt) (λ v. tt)
       (only-row FromRows 9 (λ _. row9 ws) [] (omega arith) (only-none FromRows))

@@ -12,7 +12,7 @@ use lib.IntN.{ℤ, pos, _+ℤ_}
 use lib.Signed.{_≤ℤ_}
 use borrow.Author.Tests.{lt-ltb}
 use Rattle.definitions.specs.Lists.{first, total, totalAbs}
-use Rattle.definitions.specs.Mesh.{trianglesLength, weightsLength, coordinatesLength, org, inner}
+use Rattle.definitions.specs.Mesh.{trianglesLength, weightsLength, coordinatesLength, org, inner, fronted}
 use Rattle.definitions.specs.Labels.{labels, outer}
 use Rattle.definitions.specs.Forward.{weight, forward}
 use Rattle.definitions.specs.Backward.{coordinate, backward}
@@ -133,108 +133,116 @@ unfolding row9
 over ws h = lt-ltb limit (totalAbs ws) h
 
 -- then its rows let it go on
-went-on : (n : ℕ) (ts : List ℕ) (ws bs scratch : List ℤ) (count : ℕ) → Counts (repairCall n ts ws bs scratch) count →
-    found n ts ws bs scratch ≡ none
-went-on n ts ws bs scratch count h = go (found n ts ws bs scratch) refl (rw (call-answer n ts ws bs scratch) at h)
+went-on : (n outerPlace : ℕ) (ts : List ℕ) (ws bs scratch : List ℤ) (count : ℕ) → Counts (repairCall n outerPlace ts ws bs scratch) count →
+    found n outerPlace ts ws bs scratch ≡ none
+went-on n outerPlace ts ws bs scratch count h = go (found n outerPlace ts ws bs scratch) refl (rw (call-answer n outerPlace ts ws bs scratch) at h)
   where
-    go : (o : Option Refusal) → found n ts ws bs scratch ≡ o → (answerAt n ts ws bs scratch o ≡ done count)
-        ⊎ (answerAt n ts ws bs scratch o ≡ refused (stoppedAfter count)) →
-        found n ts ws bs scratch ≡ none
+    go : (o : Option Refusal) → found n outerPlace ts ws bs scratch ≡ o → (answerAt n outerPlace ts ws bs scratch o ≡ done count)
+        ⊎ (answerAt n outerPlace ts ws bs scratch o ≡ refused (stoppedAfter count)) →
+        found n outerPlace ts ws bs scratch ≡ none
     go none e q = e
     go (some why) e (inl q) = let z : _≡_ {A = ℕ} 0 1 = cc in absurd (omega arith)
-    go (some why) e (inr q) = let z : why ≡ stoppedAfter count = cc in absurd (found-only n ts ws bs scratch (stoppedAfter count) (e ∙ ap some z))
+    go (some why) e (inr q) = let z : why ≡ stoppedAfter count = cc in absurd (found-only n outerPlace ts ws bs scratch (stoppedAfter count) (e ∙ ap some z))
 
-module _ (n : ℕ) (ts : List ℕ) (units : Accepted n ts → Units n ts (labels n ts)) (ws bs scratch : List ℤ) where
-  module _ (count : ℕ) (told-it : Counts (repairCall n ts ws bs scratch) count) where
-    on : found n ts ws bs scratch ≡ none
-    on = went-on n ts ws bs scratch count told-it
+module _ (n outerPlace : ℕ) (ts : List ℕ) where
+  -- the mesh as it is read
+  abbrev mesh : List ℕ
+  mesh = fronted outerPlace ts
 
-    acc : Accepted n ts
-    acc = found-accepted n ts ws bs scratch on .0
+  module _ (units : Accepted n mesh → Units n mesh (labels n mesh)) (ws bs scratch : List ℤ) where
+    abbrev call : Repaired
+    call = repairCall n outerPlace ts ws bs scratch
 
-    len : length ws ≡ weightsLength n
-    len = found-accepted n ts ws bs scratch on .1
+    module _ (count : ℕ) (told-it : Counts call count) where
+      on : found n outerPlace ts ws bs scratch ≡ none
+      on = went-on n outerPlace ts ws bs scratch count told-it
 
-    -- It was lent weights that 9 lets through; those that it leaves are accepted, and the coordinates that it leaves are theirs.
-    light : row9 ws ≡ false
-    light =
-        let slices = slice (length ws) (weightsLength n) ∷ slice (length bs) (coordinatesLength n) ∷ [] in
-        let own = row 9 (λ _. row9 ws) in
-        row-none 9 (λ _. row9 ws) (refusal-cons own [] (callRefusal-none n ts scratch slices (own ∷ []) on .3) .0)
+      acc : Accepted n mesh
+      acc = found-accepted n outerPlace ts ws bs scratch on .0
 
-    pub count-weights : AcceptedWeights n (repairCall n ts ws bs scratch .weights)
-    count-weights =
-        let ls = labels n ts in
-        rw (call-weights n ts ws bs scratch, on)
-        (repair-length n ts ls acc (units acc) ws len ∙ len, repair-light n ts ls acc (units acc) ws len light)
+      len : length ws ≡ weightsLength n
+      len = found-accepted n outerPlace ts ws bs scratch on .1
 
-    pub count-coordinates : repairCall n ts ws bs scratch .coordinates ≡ forward n ts (labels n ts) (repairCall n ts ws bs scratch .weights)
-    count-coordinates = rw (call-coordinates n ts ws bs scratch, call-weights n ts ws bs scratch, on) refl
+      -- It was lent weights that 9 lets through; those that it leaves are accepted, and the coordinates that it leaves are theirs.
+      light : row9 ws ≡ false
+      light =
+          let slices = slice (length ws) (weightsLength n) ∷ slice (length bs) (coordinatesLength n) ∷ [] in
+          let own = row 9 (λ _. row9 ws) in
+          row-none 9 (λ _. row9 ws) (refusal-cons own [] (callRefusal-none n outerPlace ts scratch slices (own ∷ []) on .4) .0)
 
-    -- So 10 finds nothing in them, and b0 of v0 is their total.
-    pub count-limits : row10 (repairCall n ts ws bs scratch .coordinates) ≡ false
-    count-limits = rw count-coordinates (accepted-forward n ts (labels n ts) acc (units acc) (repairCall n ts ws bs scratch .weights) count-weights .1)
+      pub count-weights : AcceptedWeights n (call .weights)
+      count-weights =
+          let ls = labels n mesh in
+          rw (call-weights n outerPlace ts ws bs scratch, on)
+          (repair-length n mesh ls acc (units acc) ws len ∙ len, repair-light n mesh ls acc (units acc) ws len light)
 
-    pub count-total : coordinate (repairCall n ts ws bs scratch .coordinates) 0 (outer ts 0) ≡ total (repairCall n ts ws bs scratch .weights)
-    count-total =
-        rw (count-coordinates)
-        (outer-total n ts (labels n ts) (size n ts (labels n ts) acc (units acc)) (units acc) (repairCall n ts ws bs scratch .weights) (count-weights .0)
-        (seen n ts (labels n ts) acc (units acc)))
+      pub count-coordinates : call .coordinates ≡ forward n mesh (labels n mesh) (call .weights)
+      count-coordinates = rw (call-coordinates n outerPlace ts ws bs scratch, call-weights n outerPlace ts ws bs scratch, on) refl
 
-    -- Any count in its answer is the number of raises, of different triangles, at most 2n - 5 ..
-    pub count-raises : count ≡ length (repair n ts (labels n ts) ws .raises)
-    count-raises =
-        toAnswer (repair n ts (labels n ts) ws .ending) (length (repair n ts (labels n ts) ws .raises)) count
-        (rw (ap (answerAt n ts ws bs scratch) on) at (rw (call-answer n ts ws bs scratch) at told-it))
+      -- So 10 finds nothing in them, and b0 of v0 is their total.
+      pub count-limits : row10 (call .coordinates) ≡ false
+      count-limits = rw count-coordinates (accepted-forward n mesh (labels n mesh) acc (units acc) (call .weights) count-weights .1)
 
-    pub count-once : Distinct (repair n ts (labels n ts) ws .raises)
-    count-once = raises-once n ts (labels n ts) acc (units acc) ws len
+      pub count-total : coordinate (call .coordinates) 0 (outer mesh 0) ≡ total (call .weights)
+      count-total =
+          rw (count-coordinates)
+          (outer-total n mesh (labels n mesh) (size n mesh (labels n mesh) acc (units acc)) (units acc) (call .weights) (count-weights .0)
+          (seen n mesh (labels n mesh) acc (units acc)))
 
-    pub count-few : count ≤ 2 * n - 5
-    count-few = omega (arith, count-raises, raises-few n ts (labels n ts) acc (units acc) ws len)
+      -- Any count in its answer is the number of raises, of different triangles, at most 2n - 5 ..
+      pub count-raises : count ≡ length (repair n mesh (labels n mesh) ws .raises)
+      count-raises =
+          toAnswer (repair n mesh (labels n mesh) ws .ending) (length (repair n mesh (labels n mesh) ws .raises)) count
+          (rw (ap (answerAt n outerPlace ts ws bs scratch) on) at (rw (call-answer n outerPlace ts ws bs scratch) at told-it))
 
-    -- .. and the number of weights that differ from those it was lent.
-    pub count-changed : count ≡ length (changed ts ws (repairCall n ts ws bs scratch .weights))
-    count-changed =
-        rw (call-weights n ts ws bs scratch, on) (count-raises ∙ sym (raises-changed n ts (labels n ts) acc (units acc) ws len))
+      pub count-once : Distinct (repair n mesh (labels n mesh) ws .raises)
+      count-once = raises-once n mesh (labels n mesh) acc (units acc) ws len
 
-  -- Where it is not refused, the coordinates that it leaves have no flat and no turned inner triangle.
-  pub done-upright : (count : ℕ) → repairCall n ts ws bs scratch .answer ≡ done count → (t : ℕ) → t ∈ inner ts →
-      bad ts (labels n ts) (repairCall n ts ws bs scratch .coordinates) t ≡ false
-  done-upright count h t i =
-      let e = on count (inl h) in
-      let m = repair n ts (labels n ts) ws in
-      let q : repairAnswer (m .ending) (length (m .raises)) ≡ done count =
-      ap (answerAt n ts ws bs scratch) (sym e) ∙ sym (call-answer n ts ws bs scratch) ∙ h in
-      rw (call-coordinates n ts ws bs scratch, e)
-      (finished-upright n ts (labels n ts) (acc count (inl h)) (units (acc count (inl h))) ws (len count (inl h))
-      (finished-well (m .ending) (length (m .raises)) count q) t i)
+      pub count-few : count ≤ 2 * n - 5
+      count-few = omega (arith, count-raises, raises-few n mesh (labels n mesh) acc (units acc) ws len)
 
-  -- Where it answers 13, the raise that comes next, of the first bad triangle in the coordinates that it leaves, would break 9.
-  pub refused-rightly : (count : ℕ) → repairCall n ts ws bs scratch .answer ≡ refused (stoppedAfter count) →
-      (t : ℕ)
-      × (first (bad ts (labels n ts) (repairCall n ts ws bs scratch .coordinates)) (inner ts) ≡ some t)
-      × (row9 (addTo (repairCall n ts ws bs scratch .weights) t (raise ts (labels n ts) (repairCall n ts ws bs scratch .coordinates) t)) ≡ true)
-  refused-rightly count h =
-      let e = on count (inr h) in
-      let m = repair n ts (labels n ts) ws in
-      let q : repairAnswer (m .ending) (length (m .raises)) ≡ refused (stoppedAfter count) =
-      ap (answerAt n ts ws bs scratch) (sym e) ∙ sym (call-answer n ts ws bs scratch) ∙ h in
-      let r = stopped-rightly n ts (labels n ts) (acc count (inr h)) (units (acc count (inr h))) ws (len count (inr h))
-      (stopped-early (m .ending) (length (m .raises)) count q) in
-      rw (call-weights n ts ws bs scratch, call-coordinates n ts ws bs scratch, e) (
-        r .0,
-        r .1,
-        over (addTo (m .weights) (r .0) (raise ts (labels n ts) (forward n ts (labels n ts) (m .weights)) (r .0))) (r .2),
-      )
+      -- .. and the number of weights that differ from those it was lent.
+      pub count-changed : count ≡ length (changed mesh ws (call .weights))
+      count-changed =
+          rw (call-weights n outerPlace ts ws bs scratch, on) (count-raises ∙ sym (raises-changed n mesh (labels n mesh) acc (units acc) ws len))
 
-  -- It never answers the number that stands for fuel that ran out.
-  pub never-out-of-fuel : repairCall n ts ws bs scratch .answer ≢ refused (numbered 0)
-  never-out-of-fuel h = go (found n ts ws bs scratch) refl (sym (call-answer n ts ws bs scratch) ∙ h)
-    where
-      go : (o : Option Refusal) → found n ts ws bs scratch ≡ o → answerAt n ts ws bs scratch o ≡ refused (numbered 0) → ⊥
-      go none e q =
-          let r = found-accepted n ts ws bs scratch e in
-          terminates n ts (labels n ts) (r .0) (units (r .0)) ws (r .1)
-          (toAnswer-zero (repair n ts (labels n ts) ws .ending) (length (repair n ts (labels n ts) ws .raises)) q)
-      go (some why) e q = let z : why ≡ numbered 0 = cc in omega (arith, found-only n ts ws bs scratch (numbered 0) (e ∙ ap some z))
+    -- Where it is not refused, the coordinates that it leaves have no flat and no turned inner triangle.
+    pub done-upright : (count : ℕ) → call .answer ≡ done count → (t : ℕ) → t ∈ inner mesh →
+        bad mesh (labels n mesh) (call .coordinates) t ≡ false
+    done-upright count h t i =
+        let e = on count (inl h) in
+        let m = repair n mesh (labels n mesh) ws in
+        let q : repairAnswer (m .ending) (length (m .raises)) ≡ done count =
+        ap (answerAt n outerPlace ts ws bs scratch) (sym e) ∙ sym (call-answer n outerPlace ts ws bs scratch) ∙ h in
+        rw (call-coordinates n outerPlace ts ws bs scratch, e)
+        (finished-upright n mesh (labels n mesh) (acc count (inl h)) (units (acc count (inl h))) ws (len count (inl h))
+        (finished-well (m .ending) (length (m .raises)) count q) t i)
+
+    -- Where it answers 13, the raise that comes next, of the first bad triangle in the coordinates that it leaves, would break 9.
+    pub refused-rightly : (count : ℕ) → call .answer ≡ refused (stoppedAfter count) →
+        (t : ℕ)
+        × (first (bad mesh (labels n mesh) (call .coordinates)) (inner mesh) ≡ some t)
+        × (row9 (addTo (call .weights) t (raise mesh (labels n mesh) (call .coordinates) t)) ≡ true)
+    refused-rightly count h =
+        let e = on count (inr h) in
+        let m = repair n mesh (labels n mesh) ws in
+        let q : repairAnswer (m .ending) (length (m .raises)) ≡ refused (stoppedAfter count) =
+        ap (answerAt n outerPlace ts ws bs scratch) (sym e) ∙ sym (call-answer n outerPlace ts ws bs scratch) ∙ h in
+        let r = stopped-rightly n mesh (labels n mesh) (acc count (inr h)) (units (acc count (inr h))) ws (len count (inr h))
+        (stopped-early (m .ending) (length (m .raises)) count q) in
+        rw (call-weights n outerPlace ts ws bs scratch, call-coordinates n outerPlace ts ws bs scratch, e) (
+          r .0,
+          r .1,
+          over (addTo (m .weights) (r .0) (raise mesh (labels n mesh) (forward n mesh (labels n mesh) (m .weights)) (r .0))) (r .2),
+        )
+
+    -- It never answers the number that stands for fuel that ran out.
+    pub never-out-of-fuel : call .answer ≢ refused (numbered 0)
+    never-out-of-fuel h = go (found n outerPlace ts ws bs scratch) refl (sym (call-answer n outerPlace ts ws bs scratch) ∙ h)
+      where
+        go : (o : Option Refusal) → found n outerPlace ts ws bs scratch ≡ o → answerAt n outerPlace ts ws bs scratch o ≡ refused (numbered 0) → ⊥
+        go none e q =
+            let r = found-accepted n outerPlace ts ws bs scratch e in
+            terminates n mesh (labels n mesh) (r .0) (units (r .0)) ws (r .1)
+            (toAnswer-zero (repair n mesh (labels n mesh) ws .ending) (length (repair n mesh (labels n mesh) ws .raises)) q)
+        go (some why) e q = let z : why ≡ numbered 0 = cc in omega (arith, found-only n outerPlace ts ws bs scratch (numbered 0) (e ∙ ap some z))

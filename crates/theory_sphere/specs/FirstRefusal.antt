@@ -1,6 +1,6 @@
 -- Rows asked in turn: the refusal that `firstRefusal` gives is that of the first row that finds something. Assumes nothing.
-use Prim.Native.Nat.{ℕ, _≤_}
-use mathlib.Core.Path.{_≡_, refl, sym, _∙_, subst}
+use Prim.Native.Nat.{ℕ, _-_, _*_, _≤_, _<_}
+use mathlib.Core.Path.{_≡_, refl, sym, ap, _∙_, subst}
 use mathlib.Core.Logic.{_↔_, _⊎_, inl, inr}
 use mathlib.Core.Bool.{Bool, true, false, not}
 use mathlib.Core.List.{List, [], _∷_, _++_}
@@ -8,13 +8,14 @@ use mathlib.Core.Option.{Option, none, some, Option·some-ne-none, Option·some-
 use native.Mathlib.Omega.{arith}
 use lib.IntN.{ℤ}
 use lib.ListN.{length}
-use borrow.Author.Tests.{eqb-true, eq-eqb, not-false}
+use borrow.Author.Tests.{leb-false, lt-leb, eqb-true, eq-eqb, not-false}
 use lib.Dec.{eqb}
 use Rattle.definitions.specs.Lists.{any}
 use Rattle.definitions.specs.Answers.{Refusal, numbered, vertexPinched, vertexStray, Row, row, firstRefusal}
-use Rattle.definitions.specs.Mesh.{trianglesLength, scratchLength, row3, row4, row5, row6, row7or25, row8}
-use Rattle.definitions.specs.Refusals.{row1, row2, mostVertices, Slice, slice, wrongLength, meshRows, callRefusal, Accepted}
+use Rattle.definitions.specs.Mesh.{trianglesLength, scratchLength, fronted, row3, row4, row5, row6, row7or25, row8}
+use Rattle.definitions.specs.Refusals.{row1, row2, row21, mostVertices, Slice, slice, wrongLength, meshRows, callRefusal, Accepted}
 use Rattle.laws.specs.Lists.{tested, untrue, or-neither}
+use Rattle.theory_sphere.specs.Fronted.{length-fronted}
 use Rattle.theory_sphere.specs.Vertices.{found-lowest}
 
 -- a row finds nothing or something
@@ -76,6 +77,23 @@ refusal-both (ahead ∷ rows) more e =
     let s = refusal-both rows more (r .1) in
     (refusal-passed ahead rows (r .0) ∙ s .0, s .1)
 
+-- rows that find the same, with the same row ahead of them, and with the same rows behind them
+pub same-behind : (ahead : Row) (rows others : List Row) → firstRefusal rows ≡ firstRefusal others →
+    firstRefusal (ahead ∷ rows) ≡ firstRefusal (ahead ∷ others)
+unfolding firstRefusal
+same-behind ahead rows others e = ap (λ (found : Option Refusal). elim (ahead tt) [ some why ↦ some why | none ↦ found ]) e
+
+pub same-more : (rows others more : List Row) → firstRefusal rows ≡ firstRefusal others → firstRefusal (rows ++ more) ≡ firstRefusal (others ++ more)
+same-more rows others more e =
+    elim (asked (firstRefusal others)) [
+      | inl q ↦ refusal-more rows more (e ∙ q) ∙ sym (refusal-more others more q)
+      | inr q ↦ refusal-first rows more (q .0) (e ∙ q .1) ∙ sym (refusal-first others more (q .0) (q .1))
+    ]
+
+-- Row 21, and then the rows of the mesh with its outer triangle in front. In a call on a mesh they stand between 1 and 2 and the call's own.
+unfoldable pub rimRows : ℕ → ℕ → List ℕ → List Row
+rimRows n outerPlace ts = row 21 (λ _. row21 n outerPlace) ∷ meshRows n (fronted outerPlace ts)
+
 -- ---- rows that refuse only with refusals that have P
 
 module _ (P : Refusal → Type 0) where
@@ -120,6 +138,11 @@ module _ (P : Refusal → Type 0) where
         let r = found-lowest ts n why e in
         elim (r .3) [ inl s ↦ subst P (sym (s .0)) (stray (r .0)) | inr s ↦ subst P (sym (s .0)) (pinched (r .0)) ])
         (only-row 8 (λ _. row8 ts) [] (numbers 8 (omega arith)) only-none)))))
+
+    pub only-rim : (n outerPlace : ℕ) (ts : List ℕ) → OnlyWith (rimRows n outerPlace ts)
+    unfolding rimRows
+    only-rim n outerPlace ts =
+        only-row 21 (λ _. row21 n outerPlace) _ (numbers 21 (omega arith)) (only-mesh n (fronted outerPlace ts))
 
 -- row 2 finds nothing just where every slice has the length that is wanted
 pub row2-cons : (has wanted : ℕ) (slices : List Slice) → (row2 (slice has wanted ∷ slices) ≡ false) ↔ ((has ≡ wanted) × (row2 slices ≡ false))
@@ -190,11 +213,34 @@ module _ (n : ℕ) (ts : List ℕ) where
   unfolding meshRows firstRefusal
   mesh-8 r3 r4 r5 r6 r7 e = rw (r3, r4, r5, r6, r7, e)
 
+-- of these rows 21 is asked first
+module _ (n outerPlace : ℕ) (ts : List ℕ) where
+  pub rim-21 : row21 n outerPlace ≡ true → firstRefusal (rimRows n outerPlace ts) ≡ some (numbered 21)
+  unfolding rimRows
+  rim-21 e =
+      refusal-found (row 21 (λ _. row21 n outerPlace)) (meshRows n (fronted outerPlace ts)) (numbered 21) (row-found 21 (λ _. row21 n outerPlace) e)
+
+  pub rim-mesh : row21 n outerPlace ≡ false → firstRefusal (rimRows n outerPlace ts) ≡ firstRefusal (meshRows n (fronted outerPlace ts))
+  unfolding rimRows
+  rim-mesh e = refusal-passed (row 21 (λ _. row21 n outerPlace)) (meshRows n (fronted outerPlace ts)) (row-passed 21 (λ _. row21 n outerPlace) e)
+
+  pub rim-none : firstRefusal (rimRows n outerPlace ts) ≡ none → (row21 n outerPlace ≡ false)
+      × (firstRefusal (meshRows n (fronted outerPlace ts)) ≡ none)
+  unfolding rimRows
+  rim-none e =
+      let r = refusal-cons (row 21 (λ _. row21 n outerPlace)) (meshRows n (fronted outerPlace ts)) e in
+      (row-none 21 (λ _. row21 n outerPlace) (r .0), r .1)
+
+-- row 21 finds nothing just where there is such a triangle
+pub row21-means : (n outerPlace : ℕ) → (row21 n outerPlace ≡ false) ↔ (outerPlace < 2 * n - 4)
+unfolding row21
+row21-means n outerPlace = (leb-false (2 * n - 4) outerPlace, lt-leb (2 * n - 4) outerPlace)
+
 -- a call on a mesh: rows 1 and 2, those of the mesh, the call's own
 abbrev pub lent : ℕ → List ℕ → List ℤ → List Slice → List Slice
 lent n ts scratch slices = slice (length ts) (trianglesLength n) ∷ slice (length scratch) (scratchLength n) ∷ slices
 
-module _ (n : ℕ) (ts : List ℕ) (scratch : List ℤ) (slices : List Slice) (own : List Row) where
+module _ (n outerPlace : ℕ) (ts : List ℕ) (scratch : List ℤ) (slices : List Slice) (own : List Row) where
   abbrev one : Row
   one = row 1 (λ _. row1 mostVertices n)
 
@@ -202,57 +248,65 @@ module _ (n : ℕ) (ts : List ℕ) (scratch : List ℤ) (slices : List Slice) (o
   two = row 2 (λ _. row2 (lent n ts scratch slices))
 
   rest : List Row
-  rest = two ∷ meshRows n ts ++ own
+  rest = two ∷ rimRows n outerPlace ts ++ own
 
-  all-rows : callRefusal n ts scratch slices own ≡ firstRefusal (one ∷ rest)
-  unfolding callRefusal rest
+  all-rows : callRefusal n outerPlace ts scratch slices own ≡ firstRefusal (one ∷ rest)
+  unfolding callRefusal rest rimRows
   all-rows = refl
 
-  past-1 : row1 mostVertices n ≡ false → callRefusal n ts scratch slices own ≡ firstRefusal rest
+  past-1 : row1 mostVertices n ≡ false → callRefusal n outerPlace ts scratch slices own ≡ firstRefusal rest
   past-1 e = all-rows ∙ refusal-passed one rest (row-passed 1 (λ _. row1 mostVertices n) e)
 
   pub callRefusal-rest : row1 mostVertices n ≡ false → row2 (lent n ts scratch slices) ≡ false →
-      callRefusal n ts scratch slices own ≡ firstRefusal (meshRows n ts ++ own)
+      callRefusal n outerPlace ts scratch slices own ≡ firstRefusal (rimRows n outerPlace ts ++ own)
   unfolding rest
-  callRefusal-rest e f = past-1 e ∙ refusal-passed two (meshRows n ts ++ own) (row-passed 2 (λ _. row2 (lent n ts scratch slices)) f)
+  callRefusal-rest e f = past-1 e ∙ refusal-passed two (rimRows n outerPlace ts ++ own) (row-passed 2 (λ _. row2 (lent n ts scratch slices)) f)
 
   -- the refusal of the first row that finds something, row by row
-  pub callRefusal-1 : row1 mostVertices n ≡ true → callRefusal n ts scratch slices own ≡ some (numbered 1)
+  pub callRefusal-1 : row1 mostVertices n ≡ true → callRefusal n outerPlace ts scratch slices own ≡ some (numbered 1)
   callRefusal-1 e = all-rows ∙ refusal-found one rest (numbered 1) (row-found 1 (λ _. row1 mostVertices n) e)
 
   pub callRefusal-2 : row1 mostVertices n ≡ false → row2 (lent n ts scratch slices) ≡ true →
-      callRefusal n ts scratch slices own ≡ some (numbered 2)
+      callRefusal n outerPlace ts scratch slices own ≡ some (numbered 2)
   unfolding rest
   callRefusal-2 e f =
-      past-1 e ∙ refusal-found two (meshRows n ts ++ own) (numbered 2) (row-found 2 (λ _. row2 (lent n ts scratch slices)) f)
+      past-1 e ∙ refusal-found two (rimRows n outerPlace ts ++ own) (numbered 2) (row-found 2 (λ _. row2 (lent n ts scratch slices)) f)
 
   pub callRefusal-mesh : (why : Refusal) → row1 mostVertices n ≡ false → row2 (lent n ts scratch slices) ≡ false →
-      firstRefusal (meshRows n ts) ≡ some why → callRefusal n ts scratch slices own ≡ some why
-  callRefusal-mesh why e f g = callRefusal-rest e f ∙ refusal-first (meshRows n ts) own why g
+      firstRefusal (rimRows n outerPlace ts) ≡ some why → callRefusal n outerPlace ts scratch slices own ≡ some why
+  callRefusal-mesh why e f g = callRefusal-rest e f ∙ refusal-first (rimRows n outerPlace ts) own why g
 
-  pub callRefusal-own : row1 mostVertices n ≡ false → row2 (lent n ts scratch slices) ≡ false → firstRefusal (meshRows n ts) ≡ none →
-      callRefusal n ts scratch slices own ≡ firstRefusal own
-  callRefusal-own e f g = callRefusal-rest e f ∙ refusal-more (meshRows n ts) own g
+  pub callRefusal-own : row1 mostVertices n ≡ false → row2 (lent n ts scratch slices) ≡ false → firstRefusal (rimRows n outerPlace ts) ≡ none →
+      callRefusal n outerPlace ts scratch slices own ≡ firstRefusal own
+  callRefusal-own e f g = callRefusal-rest e f ∙ refusal-more (rimRows n outerPlace ts) own g
 
   -- a call refuses with a number or with a vertex
   pub callRefusal-only : (P : Refusal → Type 0) → ((k : ℕ) → 1 ≤ k → P (numbered k)) → ((v : ℕ) → P (vertexPinched v)) →
-      ((v : ℕ) → P (vertexStray v)) → OnlyWith P own → (why : Refusal) → callRefusal n ts scratch slices own ≡ some why → P why
+      ((v : ℕ) → P (vertexStray v)) → OnlyWith P own → (why : Refusal) → callRefusal n outerPlace ts scratch slices own ≡ some why → P why
   unfolding rest
   callRefusal-only P numbers pinched stray h why e =
       only-row P 1 (λ _. row1 mostVertices n) rest (numbers 1 (omega arith))
       (only-row P 2 (λ _. row2 (lent n ts scratch slices)) _ (numbers 2 (omega arith))
-      (only-more P (meshRows n ts) own (only-mesh P (λ k l. numbers k (omega arith)) pinched stray n ts) h))
+      (only-more P (rimRows n outerPlace ts) own (only-rim P (λ k l. numbers k (omega arith)) pinched stray n outerPlace ts) h))
       why (sym all-rows ∙ e)
 
   -- where nothing is found, the mesh is accepted, every slice has its length, and the call's own rows found nothing
-  pub callRefusal-none : callRefusal n ts scratch slices own ≡ none
-      → Accepted n ts × (length scratch ≡ scratchLength n) × (row2 slices ≡ false) × (firstRefusal own ≡ none)
+  pub callRefusal-none : callRefusal n outerPlace ts scratch slices own ≡ none
+      → (outerPlace < 2 * n - 4) × Accepted n (fronted outerPlace ts) × (length scratch ≡ scratchLength n) × (row2 slices ≡ false)
+      × (firstRefusal own ≡ none)
   unfolding rest
   callRefusal-none e =
       let r1 = refusal-cons one rest (sym all-rows ∙ e) in
-      let r2 = refusal-cons two (meshRows n ts ++ own) (r1 .1) in
+      let r2 = refusal-cons two (rimRows n outerPlace ts ++ own) (r1 .1) in
       let l = row-none 2 (λ _. row2 (lent n ts scratch slices)) (r2 .0) in
       let t = row2-cons (length ts) (trianglesLength n) (slice (length scratch) (scratchLength n) ∷ slices) .0 l in
       let s = row2-cons (length scratch) (scratchLength n) slices .0 (t .1) in
-      let m = refusal-both (meshRows n ts) own (r2 .1) in
-      ((row-none 1 (λ _. row1 mostVertices n) (r1 .0), t .0, m .0), s .0, s .1, m .1)
+      let b = refusal-both (rimRows n outerPlace ts) own (r2 .1) in
+      let m = rim-none n outerPlace ts (b .0) in
+      let there = row21-means n outerPlace .0 (m .0) in (
+        there,
+        (row-none 1 (λ _. row1 mostVertices n) (r1 .0), length-fronted outerPlace ts ∙ t .0, m .1),
+        s .0,
+        s .1,
+        b .1,
+      )

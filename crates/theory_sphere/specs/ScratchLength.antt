@@ -11,17 +11,18 @@ use borrow.Author.Tests.{eq-eqb}
 use Rattle.definitions.specs.Lists.{any}
 use Rattle.definitions.specs.Answers.{Refusal, Row, row, firstRefusal}
 use Rattle.definitions.specs.Mesh.{trianglesLength}
-use Rattle.definitions.specs.Refusals.{row1, row2, mostVertices, Slice, slice, wrongLength, meshRows, callRefusal}
+use Rattle.definitions.specs.Refusals.{row1, row2, mostVertices, Slice, slice, wrongLength, callRefusal}
+use Rattle.theory_sphere.specs.FirstRefusal.{rimRows}
 
 -- a slice that has its length makes no difference
 fits : (ahead : Slice) (has wanted : ℕ) (slices : List Slice) → has ≡ wanted → row2 (ahead ∷ slice has wanted ∷ slices) ≡ row2 (ahead ∷ slices)
 unfolding row2 any wrongLength
 fits ahead has wanted slices e = ap (λ b. wrongLength ahead || (not b || any wrongLength slices)) (eq-eqb has wanted e)
 
-module _ (n : ℕ) (ts : List ℕ) (slices : List Slice) (own : List Row) where
+module _ (n outerPlace : ℕ) (ts : List ℕ) (slices : List Slice) (own : List Row) where
   -- what a call on a mesh finds, by what row 2 finds
   abbrev foundWith : Bool → Option Refusal
-  foundWith other = firstRefusal (row 1 (λ _. row1 mostVertices n) ∷ row 2 (λ _. other) ∷ meshRows n ts ++ own)
+  foundWith other = firstRefusal (row 1 (λ _. row1 mostVertices n) ∷ row 2 (λ _. other) ∷ rimRows n outerPlace ts ++ own)
 
   -- where scratch is asked for `words` words, and where nothing is asked of it
   unfoldable pub foundAsking : ℕ → List ℤ → Option Refusal
@@ -31,8 +32,8 @@ module _ (n : ℕ) (ts : List ℕ) (slices : List Slice) (own : List Row) where
   foundWithout = foundWith (row2 (slice (length ts) (trianglesLength n) ∷ slices))
 
   -- 10n words are asked for
-  pub asks-10n : (scratch : List ℤ) → callRefusal n ts scratch slices own ≡ foundAsking (10 * n) scratch
-  unfolding callRefusal foundAsking
+  pub asks-10n : (scratch : List ℤ) → callRefusal n outerPlace ts scratch slices own ≡ foundAsking (10 * n) scratch
+  unfolding callRefusal foundAsking rimRows
   asks-10n scratch = refl
 
   pub length-alone : (words : ℕ) (scratch : List ℤ) → length scratch ≡ words → foundAsking words scratch ≡ foundWithout
@@ -41,5 +42,5 @@ module _ (n : ℕ) (ts : List ℕ) (slices : List Slice) (own : List Row) where
 
   -- so nothing moved with C-20 but the length
   pub found-before : (before now : List ℤ) → length before ≡ 24 * n → length now ≡ 10 * n →
-      foundAsking (24 * n) before ≡ callRefusal n ts now slices own
+      foundAsking (24 * n) before ≡ callRefusal n outerPlace ts now slices own
   found-before before now e f = length-alone (24 * n) before e ∙ sym (length-alone (10 * n) now f) ∙ sym (asks-10n now)

@@ -77,17 +77,17 @@ fn scratch_for(n: usize) -> Vec<i64> {
     stale(10 * n.min(4096))
 }
 
-pub fn check(n: usize, triangles: &[u16]) -> Result<(), Refusal> {
+pub fn check(n: usize, outer: usize, triangles: &[u16]) -> Result<(), Refusal> {
     let mut scratch = scratch_for(n);
-    let answer = packmap::check(n, triangles, &mut scratch);
+    let answer = packmap::check(n, outer, triangles, &mut scratch);
     look_at_scratch(&answer, &scratch);
     answer
 }
 
-pub fn labels(n: usize, triangles: &[u16]) -> Result<Vec<u8>, Refusal> {
+pub fn labels(n: usize, outer: usize, triangles: &[u16]) -> Result<Vec<u8>, Refusal> {
     let len = triangles.len().saturating_sub(3);
     let (mut labels, mut scratch) = (stale_bytes(len), scratch_for(n));
-    let answer = packmap::labels(n, triangles, &mut labels, &mut scratch);
+    let answer = packmap::labels(n, outer, triangles, &mut labels, &mut scratch);
     look_at_scratch(&answer, &scratch);
     if answer.is_err() {
         assert_eq!(labels, stale_bytes(len));
@@ -95,10 +95,15 @@ pub fn labels(n: usize, triangles: &[u16]) -> Result<Vec<u8>, Refusal> {
     answer.map(|()| labels)
 }
 
-pub fn forward(n: usize, triangles: &[u16], weights: &[i64]) -> Result<Vec<i64>, Refusal> {
+pub fn forward(
+    n: usize,
+    outer: usize,
+    triangles: &[u16],
+    weights: &[i64],
+) -> Result<Vec<i64>, Refusal> {
     let len = 3 * n.min(4096);
     let (mut coordinates, mut scratch) = (stale(len), scratch_for(n));
-    let answer = packmap::forward(n, triangles, weights, &mut coordinates, &mut scratch);
+    let answer = packmap::forward(n, outer, triangles, weights, &mut coordinates, &mut scratch);
     look_at_scratch(&answer, &scratch);
     if answer.is_err() {
         assert_eq!(coordinates, stale(len));
@@ -106,10 +111,15 @@ pub fn forward(n: usize, triangles: &[u16], weights: &[i64]) -> Result<Vec<i64>,
     answer.map(|()| coordinates)
 }
 
-pub fn backward(n: usize, triangles: &[u16], coordinates: &[i64]) -> Result<Vec<i64>, Refusal> {
+pub fn backward(
+    n: usize,
+    outer: usize,
+    triangles: &[u16],
+    coordinates: &[i64],
+) -> Result<Vec<i64>, Refusal> {
     let len = (triangles.len() / 3).saturating_sub(1);
     let (mut weights, mut scratch) = (stale(len), scratch_for(n));
-    let answer = packmap::backward(n, triangles, coordinates, &mut weights, &mut scratch);
+    let answer = packmap::backward(n, outer, triangles, coordinates, &mut weights, &mut scratch);
     look_at_scratch(&answer, &scratch);
     if answer.is_err() {
         assert_eq!(weights, stale(len));
@@ -120,11 +130,18 @@ pub fn backward(n: usize, triangles: &[u16], coordinates: &[i64]) -> Result<Vec<
 /// The answer, and the weights and coordinates that it left.
 pub type Repaired = (Result<u64, Refusal>, Vec<i64>, Vec<i64>);
 
-pub fn repair(n: usize, triangles: &[u16], weights: &[i64]) -> Repaired {
+pub fn repair(n: usize, outer: usize, triangles: &[u16], weights: &[i64]) -> Repaired {
     let len = 3 * n.min(4096);
     let (mut raised, mut coordinates) = (weights.to_vec(), stale(len));
     let mut scratch = scratch_for(n);
-    let answer = packmap::repair(n, triangles, &mut raised, &mut coordinates, &mut scratch);
+    let answer = packmap::repair(
+        n,
+        outer,
+        triangles,
+        &mut raised,
+        &mut coordinates,
+        &mut scratch,
+    );
     look_at_scratch(&answer, &scratch);
     if !matches!(answer, Ok(_) | Err(Refusal::Raise { .. })) {
         assert_eq!(raised, weights);

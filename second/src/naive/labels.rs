@@ -1,13 +1,13 @@
 //! The slow labels: peeling, with the frontier searched anew for each vertex.
 
-use super::{triples, Triple};
+use super::{inner, triples, Triple};
 use std::collections::{BTreeMap, BTreeSet};
 
 /// For each side, the third corner and the place of its triangle.
 type Thirds = BTreeMap<(usize, usize), (usize, usize)>;
 
 /// Labels of the inner corners, by peeling.
-pub fn labels(n: usize, triangles: &[u16]) -> Vec<u8> {
+pub fn labels(n: usize, outer: usize, triangles: &[u16]) -> Vec<u8> {
     let all = triples(triangles);
     let mut thirds = Thirds::new();
     for (place, t) in all.iter().enumerate() {
@@ -15,7 +15,7 @@ pub fn labels(n: usize, triangles: &[u16]) -> Vec<u8> {
             thirds.insert((t[i], t[(i + 1) % 3]), (t[(i + 2) % 3], place));
         }
     }
-    let [v0, v2, v1] = all[0];
+    let [v0, v2, v1] = all[outer];
     let mut remaining: BTreeSet<usize> = (0..n).collect();
     let mut frontier = vec![v0, v2, v1];
     let mut at: Vec<BTreeMap<usize, u8>> = vec![BTreeMap::new(); all.len()];
@@ -32,8 +32,8 @@ pub fn labels(n: usize, triangles: &[u16]) -> Vec<u8> {
         remaining.remove(&v);
         frontier.splice(i - 1..=i + 1, chain);
     }
-    let corners = all.iter().zip(&at).skip(1);
-    corners.flat_map(|(t, at)| t.map(|v| at[&v])).collect()
+    let labelled = |place: usize| all[place].map(|v| at[place][&v]);
+    inner(&all, outer).flat_map(labelled).collect()
 }
 
 /// The frontier's place of the next vertex to remove: the smallest-numbered
@@ -50,12 +50,13 @@ fn next(thirds: &Thirds, remaining: &BTreeSet<usize>, frontier: &[usize]) -> usi
 }
 
 /// The corners of the inner triangles, in the order of their labels.
-pub fn by_label(triangles: &[u16], labels: &[u8]) -> Vec<Triple> {
-    let inner = triangles.chunks(3).skip(1).zip(labels.chunks(3));
-    inner
-        .map(|(t, at)| {
+pub fn by_label(outer: usize, triangles: &[u16], labels: &[u8]) -> Vec<Triple> {
+    let all = triples(triangles);
+    inner(&all, outer)
+        .zip(labels.chunks(3))
+        .map(|(place, at)| {
             let with = |c: u8| at.iter().position(|&x| x == c);
-            let corner = |c: u8| t[with(c).expect("each label occurs once")] as usize;
+            let corner = |c: u8| all[place][with(c).expect("each label occurs once")];
             [0, 1, 2].map(corner)
         })
         .collect()

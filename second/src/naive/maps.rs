@@ -1,7 +1,7 @@
 //! The slow maps: forward by the sets of sides on walks and paths, backward by
 //! the differences along coloured sides.
 
-use super::{by_label, sides, triples, Side, Triple};
+use super::{by_label, inner, sides, triples, Side, Triple};
 use std::collections::{BTreeMap, BTreeSet};
 
 /// An inner side by its ends without direction, to colour, tail and head.
@@ -15,7 +15,7 @@ fn undirected((a, b): Side) -> Side {
 pub struct Labelled {
     n: usize,
     /// v0, v1, v2.
-    outer: Triple,
+    rim: Triple,
     /// For each inner triangle, its corners labelled 0, 1, 2.
     pub corners: Vec<Triple>,
     colours: Colours,
@@ -25,16 +25,16 @@ pub struct Labelled {
 }
 
 impl Labelled {
-    pub fn new(n: usize, triangles: &[u16], labels: &[u8]) -> Labelled {
+    pub fn new(n: usize, outer: usize, triangles: &[u16], labels: &[u8]) -> Labelled {
         let all = triples(triangles);
-        let [v0, v2, v1] = all[0];
-        let outer = [v0, v1, v2];
-        let corners = by_label(triangles, labels);
-        let colours = colours(&all, labels);
-        let walks = walks(&all, &corners);
+        let [v0, v2, v1] = all[outer];
+        let rim = [v0, v1, v2];
+        let corners = by_label(outer, triangles, labels);
+        let colours = colours(&all, outer, labels);
+        let walks = walks(&all, outer, &corners);
         let met = |c: u8| -> Vec<Vec<usize>> {
             let meeting = |i: usize| {
-                let path = path(&colours, outer, c, i);
+                let path = path(&colours, rim, c, i);
                 let meets = |t: &usize| !walks[*t].is_disjoint(&path);
                 (0..walks.len()).filter(meets).collect()
             };
@@ -43,7 +43,7 @@ impl Labelled {
         let in_b = [met(1), met(0)];
         Labelled {
             n,
-            outer,
+            rim,
             corners,
             colours,
             in_b,
@@ -97,7 +97,7 @@ impl Labelled {
             (Some(c), Some(between)) => at(t[c], c) - at(t[between], c),
             // They run in a circle: N, less each corner's own coordinate at
             // the one that its side runs to.
-            _ => at(self.outer[0], 0) - (0..3).map(|c| at(t[to[c][0]], c)).sum::<i128>(),
+            _ => at(self.rim[0], 0) - (0..3).map(|c| at(t[to[c][0]], c)).sum::<i128>(),
         };
         (case, weight as i64)
     }
@@ -125,17 +125,18 @@ impl Labelled {
     fn rim_side(&self, side: Side, choice: usize) -> (u8, usize, usize) {
         let (a, b) = undirected(side);
         let (tail, head) = if choice == 0 { (a, b) } else { (b, a) };
-        let colour = self.outer.iter().position(|&v| v == head);
+        let colour = self.rim.iter().position(|&v| v == head);
         (colour.expect("an end on the rim") as u8, tail, head)
     }
 }
 
 /// Colours and directions of the inner sides: a side points to the end whose
 /// two corners carry the same label.
-fn colours(all: &[Triple], labels: &[u8]) -> Colours {
+fn colours(all: &[Triple], outer: usize, labels: &[u8]) -> Colours {
     // Labels at the two ends of each side, from its inner triangles.
     let mut ends: BTreeMap<Side, Vec<(usize, u8)>> = BTreeMap::new();
-    for (t, at) in all.iter().skip(1).zip(labels.chunks(3)) {
+    for (place, at) in inner(all, outer).zip(labels.chunks(3)) {
+        let t = all[place];
         for i in 0..3 {
             let j = (i + 1) % 3;
             let both = [(t[i], at[i]), (t[j], at[j])];
@@ -160,7 +161,8 @@ fn colours(all: &[Triple], labels: &[u8]) -> Colours {
 }
 
 /// The sides that the colour-2 walk of each inner triangle crosses.
-fn walks(all: &[Triple], corners: &[Triple]) -> Vec<BTreeSet<Side>> {
+fn walks(all: &[Triple], outer: usize, corners: &[Triple]) -> Vec<BTreeSet<Side>> {
+    let corners: BTreeMap<usize, &Triple> = inner(all, outer).zip(corners).collect();
     // The triangles on both sides of a side.
     let mut beside: BTreeMap<Side, Vec<usize>> = BTreeMap::new();
     for (place, t) in all.iter().enumerate() {
@@ -171,25 +173,25 @@ fn walks(all: &[Triple], corners: &[Triple]) -> Vec<BTreeSet<Side>> {
     let walk = |start: usize| {
         let mut crossed = BTreeSet::new();
         let mut at = start;
-        while at != 0 {
-            let [p, q, _] = corners[at - 1];
-            let side = undirected((p, q));
+        while at != outer {
+            let [p, q, _] = corners[&at];
+            let side = undirected((*p, *q));
             assert!(crossed.insert(side), "a walk ends");
             let other = beside[&side].iter().find(|&&t| t != at);
             at = *other.expect("a triangle beyond");
         }
         crossed
     };
-    (1..all.len()).map(walk).collect()
+    inner(all, outer).map(walk).collect()
 }
 
 /// The sides on the path of colour c from a vertex to v_c.
-fn path(colours: &Colours, outer: Triple, c: u8, from: usize) -> BTreeSet<Side> {
-    let root = outer[c as usize];
+fn path(colours: &Colours, rim: Triple, c: u8, from: usize) -> BTreeSet<Side> {
+    let root = rim[c as usize];
     let mut path = BTreeSet::new();
     let mut v = from;
     while v != root {
-        let to = if outer.contains(&v) {
+        let to = if rim.contains(&v) {
             root
         } else {
             let leaving = colours.values().find(|s| s.0 == c && s.1 == v);

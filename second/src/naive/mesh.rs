@@ -1,13 +1,16 @@
-//! The slow mesh check: rows 3 to 8 and 25, each by its definition.
+//! The slow mesh check: rows 21, 3 to 8 and 25, each by its definition.
 
 use super::{sides, triples, Side, Triple};
 use crate::Refusal;
 use std::collections::{BTreeMap, BTreeSet};
 
-/// The refusal of a mesh of fitting length, by rows 3 to 8 with 25 at the place
-/// of 7.
-pub fn refusal(n: usize, triangles: &[u16]) -> Option<Refusal> {
+/// The refusal of a mesh of fitting length, by rows 21 and 3 to 8 with 25 at the
+/// place of 7.
+pub fn refusal(n: usize, outer: usize, triangles: &[u16]) -> Option<Refusal> {
     let all = triples(triangles);
+    if all.get(outer).is_none() {
+        return Some(Refusal::plain(21));
+    }
     if all.iter().flatten().any(|&v| v >= n) {
         return Some(Refusal::plain(3));
     }

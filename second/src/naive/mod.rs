@@ -1,6 +1,7 @@
-//! Slow references, one file for each call. Each is spelled out from document
-//! 01 with sets and lists, and shares no code with the fast modules. Here are
-//! the types that they share.
+//! Slow references, one file for each call. Each is spelled out from the papers
+//! with sets and lists, and shares no code with the fast modules. No triangle is
+//! moved: the outer one is that at its place, and the inner ones are the others.
+//! Here are the types that they share.
 
 mod labels;
 mod maps;
@@ -24,6 +25,11 @@ type Side = (usize, usize);
 fn triples(triangles: &[u16]) -> Vec<Triple> {
     let wide: Vec<usize> = triangles.iter().map(|&v| v.into()).collect();
     wide.chunks(3).map(|t| [t[0], t[1], t[2]]).collect()
+}
+
+/// The places of the inner triangles, in listed order: all but the outer one's.
+fn inner(all: &[Triple], outer: usize) -> impl Iterator<Item = usize> {
+    (0..all.len()).filter(move |&place| place != outer)
 }
 
 fn sides(t: &Triple) -> [Side; 3] {

@@ -3,6 +3,9 @@
 
 use super::{labels, refusal, too_heavy, Labelled};
 
+/// The first triangle of a text is the outer one.
+const OUTER: usize = 0;
+
 /// What a job text comes to.
 #[derive(Debug, PartialEq)]
 pub enum Verdict {
@@ -72,13 +75,14 @@ pub fn packmap(text: &[u8]) -> String {
         Verdict::Refused(number, line) => return refused(number, line),
         Verdict::Job(n, triangles, weights) => (n, triangles, weights),
     };
-    if let Some(found) = refusal(n, &triangles) {
+    if let Some(found) = refusal(n, OUTER, &triangles) {
         return refused(found.number.into(), 0);
     }
     if too_heavy(&weights) {
         return refused(9, 0);
     }
-    let mesh = Labelled::new(n, &triangles, &labels(n, &triangles));
+    let labels = labels(n, OUTER, &triangles);
+    let mesh = Labelled::new(n, OUTER, &triangles, &labels);
     let (raises, stopped) = mesh.repair(&mut weights);
     if stopped {
         return refused(13, 0);

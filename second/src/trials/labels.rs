@@ -4,15 +4,16 @@
 
 use super::{refused, sizes, Trials, WrongLength, FILL, FILL_BYTE, WRONG_N};
 use crate::shells::{FIVE, PAIR, TETRA};
-use crate::spheres::sphere;
+use crate::spheres::{moved, place, sphere};
 use crate::{labels, naive, Answer, Work};
 use std::collections::HashMap;
 
 impl Trials {
-    pub(super) fn labels(&mut self, n: usize, triangles: &[u16]) -> Answer<Vec<u8>> {
+    pub(super) fn labels(&mut self, n: usize, outer: usize, triangles: &[u16]) -> Answer<Vec<u8>> {
         let mut scratch = vec![FILL; sizes(n).scratch];
         let mut out = vec![FILL_BYTE; sizes(n).labels];
-        let answer = labels::labels(&mut self.work, n, triangles, &mut out, &mut scratch);
+        let work = &mut self.work;
+        let answer = labels::labels(work, n, outer, triangles, &mut out, &mut scratch);
         self.settle(&answer, &scratch);
         if answer.is_err() {
             self.untouched(out.iter().all(|&x| x == FILL_BYTE), "labels");
@@ -23,31 +24,32 @@ impl Trials {
 
 /// P1 to P3.
 pub(super) fn checked(trials: &mut Trials) {
-    let got = trials.labels(3, &PAIR);
+    let got = trials.labels(3, 0, &PAIR);
     trials.equal(got, Ok(vec![0, 1, 2]), "P1");
-    let got = trials.labels(4, &TETRA);
+    let got = trials.labels(4, 0, &TETRA);
     trials.equal(got, Ok([0, 1, 2].repeat(3)), "P2");
-    let got = trials.labels(5, &FIVE);
+    let got = trials.labels(5, 0, &FIVE);
     let wanted = vec![0, 1, 2, 0, 1, 2, 0, 1, 2, 1, 2, 0, 2, 0, 1];
     trials.equal(got, Ok(wanted), "P3");
 }
 
-/// Row 1.
+/// Row 1, before 21.
 pub(super) fn table(trials: &mut Trials) {
     for n in WRONG_N {
-        let got = trials.labels(n, &TETRA);
+        let got = trials.labels(n, usize::MAX, &TETRA);
         trials.equal(got, refused(1), "1, labels");
     }
 }
 
-/// Row 2 for each slice, with a broken mesh besides.
+/// Row 2 for each slice, with a broken mesh and outer number besides.
 pub(super) fn lengths(trials: &mut Trials) {
     for wrong in WrongLength::all(3) {
         let (n, s) = (wrong.n, sizes(wrong.n));
         let t = vec![9; wrong.of(0, s.triangles)];
         let mut scratch = vec![FILL; wrong.of(1, s.scratch)];
         let mut out = vec![FILL_BYTE; wrong.of(2, s.labels)];
-        let answer = labels::labels(&mut Work::default(), n, &t, &mut out, &mut scratch);
+        let (work, outer) = (&mut Work::default(), usize::MAX);
+        let answer = labels::labels(work, n, outer, &t, &mut out, &mut scratch);
         trials.equal(answer, refused(2), "2, labels");
         trials.settle(&answer, &scratch);
         trials.untouched(out.iter().all(|&x| x == FILL_BYTE), "labels");
@@ -59,14 +61,17 @@ pub(super) fn random(trials: &mut Trials) {
     for round in 0..2 * trials.rounds {
         let n = trials.size_in(round, 4096);
         let t = sphere(&mut trials.rng, n);
-        let got = trials.labels(n, &t).unwrap_or_default();
+        let outer = place(&mut trials.rng, n);
+        let got = trials.labels(n, outer, &t).unwrap_or_default();
+        let front = moved(&t, outer, 0);
         let ok = got.len() == 3 * (2 * n - 5)
             && along_triangles(&got)
-            && at_outer_vertices(&t, &got)
-            && around_inner_vertices(n, &t, &got);
-        trials.check(ok, || format!("label rules, n = {n}, {t:?}"));
+            && at_outer_vertices(&front, &got)
+            && around_inner_vertices(n, &front, &got);
+        trials.check(ok, || format!("label rules, n = {n}, outer {outer}, {t:?}"));
         if n <= 80 {
-            trials.equal(got, naive::labels(n, &t), "labels, slow and fast");
+            let slow = naive::labels(n, outer, &t);
+            trials.equal(got, slow, "labels, slow and fast");
         }
     }
 }
@@ -77,7 +82,7 @@ fn along_triangles(labels: &[u8]) -> bool {
     labels.chunks(3).all(along)
 }
 
-/// Whether every label at v_c is c.
+/// Whether every label at v_c is c; the outer triangle is the first.
 fn at_outer_vertices(triangles: &[u16], labels: &[u8]) -> bool {
     let outer = [triangles[0], triangles[2], triangles[1]];
     let corners = triangles[3..].iter().zip(labels);
@@ -87,7 +92,7 @@ fn at_outer_vertices(triangles: &[u16], labels: &[u8]) -> bool {
 }
 
 /// Whether each of 0, 1, 2 makes one nonempty run, in that order, around each
-/// inner vertex.
+/// inner vertex; the outer triangle is the first.
 fn around_inner_vertices(n: usize, triangles: &[u16], labels: &[u8]) -> bool {
     // For each triangle (v, a, b): from v and a to b and the label at v.
     let mut turn = HashMap::new();

@@ -7,6 +7,7 @@
 mod labels;
 mod maps;
 mod mesh;
+mod outer;
 mod repair;
 mod snap;
 mod text;
@@ -25,7 +26,7 @@ type Test = fn(&mut Trials);
 
 /// The groups by name, each with its tests. All draw on one sequence of random
 /// numbers, so their order matters for what a seed gives.
-const GROUPS: [(&str, &[Test]); 12] = [
+const GROUPS: [(&str, &[Test]); 13] = [
     (
         "P1 to P11",
         &[
@@ -33,12 +34,15 @@ const GROUPS: [(&str, &[Test]); 12] = [
             maps::checked,
             repair::checked,
             snap::checked,
+            outer::checked,
+            outer::last_of_tetra,
         ],
     ),
     (
         "refusal table",
         &[
             mesh::table,
+            outer::table,
             labels::table,
             maps::table,
             repair::table,
@@ -60,6 +64,7 @@ const GROUPS: [(&str, &[Test]); 12] = [
         "mesh check",
         &[mesh::on_three_vertices, mesh::changed, mesh::damaged],
     ),
+    ("outer triangle", &[outer::every_place, outer::damaged]),
     ("labels", &[labels::random]),
     ("forward and backward", &[maps::random]),
     ("refused weights and coordinates", &[maps::refused_numbers]),

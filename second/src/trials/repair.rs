@@ -7,7 +7,7 @@
 use super::maps::on_tetra;
 use super::{refused, sizes, Trials, WrongLength, FILL, WRONG_N};
 use crate::shells::TETRA;
-use crate::spheres::{any_weights, sphere, weights, KINDS};
+use crate::spheres::{any_weights, place, sphere, weights, KINDS};
 use crate::{damage, maps, naive, repair, Answer, Extra, Refusal, Work, LIMIT};
 
 impl Trials {
@@ -15,6 +15,7 @@ impl Trials {
     pub(super) fn repair(
         &mut self,
         n: usize,
+        outer: usize,
         triangles: &[u16],
         weights: &[i64],
     ) -> (Answer<usize>, Vec<i64>, Vec<i64>) {
@@ -22,7 +23,7 @@ impl Trials {
         let mut out = vec![FILL; sizes(n).coordinates];
         let mut new = weights.to_vec();
         let work = &mut self.work;
-        let answer = repair::repair(work, n, triangles, &mut new, &mut out, &mut scratch);
+        let answer = repair::repair(work, n, outer, triangles, &mut new, &mut out, &mut scratch);
         self.settle(&answer, &scratch);
         if matches!(answer, Err(refusal) if refusal.number != 13) {
             let ok = new == weights && out.iter().all(|&x| x == FILL);
@@ -42,41 +43,43 @@ fn stopped(count: usize) -> Answer<usize> {
 
 /// P6 to P8.
 pub(super) fn checked(trials: &mut Trials) {
-    let corners = naive::by_label(&TETRA, &[0, 1, 2].repeat(3));
-    let b = trials.forward(4, &TETRA, &[5, 3, -1]).unwrap_or_default();
+    let corners = naive::by_label(0, &TETRA, &[0, 1, 2].repeat(3));
+    let b = trials
+        .forward(4, 0, &TETRA, &[5, 3, -1])
+        .unwrap_or_default();
     trials.equal(naive::areas(&corners, &b), vec![35, 21, -7], "P6, areas");
     let nine = vec![9, 0, 0, 0, 9, 0, 0, 0, 9, 3, 5, 1];
-    let got = trials.repair(4, &TETRA, &[5, 3, -1]);
+    let got = trials.repair(4, 0, &TETRA, &[5, 3, -1]);
     trials.equal(got, (Ok(1), vec![5, 3, 1], nine), "P6, one raise by 2");
 
     let three = vec![3, 0, 0, 0, 3, 0, 0, 0, 3, 1, 1, 1];
-    let got = trials.repair(4, &TETRA, &[0; 3]);
+    let got = trials.repair(4, 0, &TETRA, &[0; 3]);
     trials.equal(got, (Ok(3), vec![1; 3], three.clone()), "P7");
 
     let minus: Vec<i64> = three.iter().map(|x| -x).collect();
     trials.equal(naive::areas(&corners, &minus), vec![3; 3], "P8, areas");
-    let got = trials.repair(4, &TETRA, &[-1; 3]);
+    let got = trials.repair(4, 0, &TETRA, &[-1; 3]);
     trials.equal(got, (Ok(0), vec![-1; 3], minus), "P8");
 }
 
 /// Rows 1, 9 and 13.
 pub(super) fn table(trials: &mut Trials) {
     for n in WRONG_N {
-        let (got, ..) = trials.repair(n, &TETRA, &[1, 1, 1]);
+        let (got, ..) = trials.repair(n, usize::MAX, &TETRA, &[1, 1, 1]);
         trials.equal(got, refused(1), "1, repair");
     }
-    let (got, ..) = trials.repair(4, &TETRA, &[LIMIT, 1, 0]);
+    let (got, ..) = trials.repair(4, 0, &TETRA, &[LIMIT, 1, 0]);
     trials.equal(got, refused(9), "9, repair");
 
     // Vertex 3 of the tetra is (w2, w1, w3).
     let w = [1, -1_073_741_821, 1];
     let total = -1_073_741_819;
     let b = on_tetra(total, [0, total, 0], [w[1], w[0], w[2]]);
-    let got = trials.repair(4, &TETRA, &w);
+    let got = trials.repair(4, 0, &TETRA, &w);
     trials.equal(got, (stopped(0), w.to_vec(), b), "13");
 }
 
-/// Row 2 for each slice, with a broken mesh besides.
+/// Row 2 for each slice, with a broken mesh and outer number besides.
 pub(super) fn lengths(trials: &mut Trials) {
     for wrong in WrongLength::all(4) {
         let (n, s) = (wrong.n, sizes(wrong.n));
@@ -85,8 +88,8 @@ pub(super) fn lengths(trials: &mut Trials) {
         let w = vec![FILL; wrong.of(2, s.weights)];
         let b = vec![FILL; wrong.of(3, s.coordinates)];
         let (mut new, mut out) = (w.clone(), b.clone());
-        let work = &mut Work::default();
-        let answer = repair::repair(work, n, &t, &mut new, &mut out, &mut scratch);
+        let (work, outer) = (&mut Work::default(), usize::MAX);
+        let answer = repair::repair(work, n, outer, &t, &mut new, &mut out, &mut scratch);
         trials.settle(&answer, &scratch);
         trials.equal((answer, new, out), (refused(2), w, b), "2, repair");
     }
@@ -94,9 +97,9 @@ pub(super) fn lengths(trials: &mut Trials) {
 
 /// Random weights that row 13 refuses before any raise. Every vertex is drawn
 /// in a corner.
-pub(super) fn no_raise(trials: &mut Trials, n: usize, t: &[u16]) {
+pub(super) fn no_raise(trials: &mut Trials, n: usize, outer: usize, t: &[u16]) {
     let stuck = damage::stuck(&mut trials.rng, 2 * n - 5);
-    let (got, new, b) = trials.repair(n, t, &stuck);
+    let (got, new, b) = trials.repair(n, outer, t, &stuck);
     trials.equal((got, new), (stopped(0), stuck), "13 before any raise");
     let on_corners = b.chunks(3).all(|b| {
         let largest = b.iter().filter(|&&x| x == LIMIT).count();
@@ -113,18 +116,19 @@ pub(super) fn random(trials: &mut Trials) {
             _ => trials.size_in(round, 4096),
         };
         let t = sphere(&mut trials.rng, n);
-        let labels = trials.labels(n, &t).unwrap_or_default();
-        let corners = naive::by_label(&t, &labels);
-        let slow = (n <= 24).then(|| naive::Labelled::new(n, &t, &labels));
+        let outer = place(&mut trials.rng, n);
+        let labels = trials.labels(n, outer, &t).unwrap_or_default();
+        let corners = naive::by_label(outer, &t, &labels);
+        let slow = (n <= 24).then(|| naive::Labelled::new(n, outer, &t, &labels));
         for kind in KINDS {
             let w = weights(&mut trials.rng, kind, 2 * n - 5).unwrap_or_default();
-            let repaired = trials.repair(n, &t, &w);
-            after(trials, (n, &t, &corners), &w, &repaired);
+            let repaired = trials.repair(n, outer, &t, &w);
+            after(trials, (n, outer, &t, &corners), &w, &repaired);
             let mut new = w.clone();
             let (raises, ended) = if let Some(slow) = &slow {
                 slow.repair(&mut new)
             } else if n <= 150 || round == 2 {
-                by_fast_forward(n, &t, &corners, &mut new)
+                by_fast_forward(n, outer, &t, &corners, &mut new)
             } else {
                 continue;
             };
@@ -132,8 +136,8 @@ pub(super) fn random(trials: &mut Trials) {
         }
         // A state after a repair needs no further one.
         let w = any_weights(&mut trials.rng, 2 * n - 5);
-        if let (Ok(_), new, b) = trials.repair(n, &t, &w) {
-            let again = trials.repair(n, &t, &new);
+        if let (Ok(_), new, b) = trials.repair(n, outer, &t, &w) {
+            let again = trials.repair(n, outer, &t, &new);
             trials.equal(again, (Ok(0), new, b), "repair of a repair");
         }
     }
@@ -142,6 +146,7 @@ pub(super) fn random(trials: &mut Trials) {
 /// The slow repair with the fast forward map.
 fn by_fast_forward(
     n: usize,
+    outer: usize,
     t: &[u16],
     corners: &[naive::Triple],
     weights: &mut [i64],
@@ -150,7 +155,7 @@ fn by_fast_forward(
     let mut scratch = vec![0; sizes(n).scratch];
     naive::repair_by(corners, weights, |w| {
         let mut b = vec![0; 3 * n];
-        let answer = maps::forward(work, n, t, w, &mut b, &mut scratch);
+        let answer = maps::forward(work, n, outer, t, w, &mut b, &mut scratch);
         assert!(answer.is_ok(), "weights pass 9 throughout");
         b
     })
@@ -180,14 +185,14 @@ fn as_slow(
 /// row 13 refuses the next raise, and the count is that of the changed weights.
 fn after(
     trials: &mut Trials,
-    (n, t, corners): (usize, &[u16], &[naive::Triple]),
+    (n, outer, t, corners): (usize, usize, &[u16], &[naive::Triple]),
     w: &[i64],
     (answer, new, b): &(Answer<usize>, Vec<i64>, Vec<i64>),
 ) {
     let changed = w.iter().zip(new).filter(|(a, b)| a != b).count();
     let lowered = w.iter().zip(new).any(|(a, b)| a > b);
     trials.check(!lowered, || format!("a weight was lowered, n = {n}"));
-    let drawn = trials.forward(n, t, new);
+    let drawn = trials.forward(n, outer, t, new);
     trials.equal(drawn.as_ref(), Ok(b), "coordinates after repair");
     let count = match *answer {
         Ok(count) => {

@@ -111,7 +111,7 @@ pub(super) fn random(trials: &mut Trials) {
 /// What packmap prints for a job that rows 1 to 9 let through, by the call of
 /// repair.
 fn by_repair(trials: &mut Trials, n: usize, t: &[u16], w: &[i64]) -> String {
-    let (Ok(count), new, b) = trials.repair(n, t, w) else {
+    let (Ok(count), new, b) = trials.repair(n, 0, t, w) else {
         return "refused\t13\t0\n".into();
     };
     let total: i64 = new.iter().sum();

@@ -7,7 +7,7 @@ use Rattle.labels_call.proofs.labels.Statement.{statement}
 use Rattle.labels_call.proofs.labels.Tie as tie
 
 returns : tie.Need-returns
-returns c = gives-early _ _ _ _ _ (search) (search)
+returns c = gives-early _ _ _ _ _ _ (search) (search)
 
 run-labels-requires : tie.Need-run-labels-requires
 run-labels-requires c κs =
@@ -18,7 +18,7 @@ returns-2 : tie.Need-returns-2
 returns-2 c =
     let rows : tie.After-labels-rows = search in
     let run : tie.After-run-labels = search in
-    gives-run _ _ _ _ (has-fits _ _ _ _ _ (rows .labels-rows .ensures) (search)) _ _ (run .run-labels .ensures) (run .run-labels .last .1 .1 .1 .0) _
+    gives-run _ _ _ _ _ (has-fits _ _ _ _ _ (rows .labels-rows .ensures) (search)) _ _ (run .run-labels .ensures) (run .run-labels .last .1 .1 .1 .1 .0) _
     (omega arith) (c .before .clear .ensures)
 
 pub labels-spec : {M : Type 1} → statement M

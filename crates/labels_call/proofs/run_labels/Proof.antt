@@ -14,24 +14,24 @@ returns : tie.Need-returns
 returns c =
     let start : tie.Start = search in
     let labelled : tie.After-label-mesh = search in
-    runs-refused _ _ _ _ (start .pre) _ _ (labelled-refused _ _ (labelled .label-mesh .last .1 .1 .0) (labelled .label-mesh .result) _
+    runs-refused _ _ _ _ _ (start .pre) _ _ (labelled-refused _ _ _ (labelled .label-mesh .last .1 .1 .1 .0) (labelled .label-mesh .result) _
     (c .before .enum-told2 .given .1) (labelled .label-mesh .ensures)) (cc)
 
 write-labels-requires : tie.Need-write-labels-requires
 write-labels-requires c κs =
     let start : tie.Start = search in
     let labelled : tie.After-label-mesh = search in
-    let A = labelled-accepted _ _ (labelled .label-mesh .last .1 .1 .0) (labelled .label-mesh .result) (search) (labelled .label-mesh .ensures) in
-    can-write _ _ _ (A .1) (start .args .labels .now) (labels-long _ _ (start .args .labels .now) _ (start .pre))
+    let A = labelled-accepted _ _ _ (labelled .label-mesh .last .1 .1 .1 .0) (labelled .label-mesh .result) (search) (labelled .label-mesh .ensures) in
+    can-write _ _ _ (A .peeled) (start .args .labels .now) (labels-long _ _ (start .args .labels .now) _ (start .pre))
 
 returns-2 : tie.Need-returns-2
 returns-2 c =
     let start : tie.Start = search in
     let labelled : tie.After-label-mesh = search in
     let wrote : tie.After-write-labels = search in
-    let A = labelled-accepted _ _ (labelled .label-mesh .last .1 .1 .0) (labelled .label-mesh .result) (search) (labelled .label-mesh .ensures) in
+    let A = labelled-accepted _ _ _ (labelled .label-mesh .last .1 .1 .1 .0) (labelled .label-mesh .result) (search) (labelled .label-mesh .ensures) in
     let l = labels-long _ _ (start .args .labels .now) _ (start .pre) in
-    runs-written _ _ _ _ (start .pre) (A .0) _ (written _ _ _ (A .1) _ (omega arith) (wrote .write-labels .ensures))
+    runs-written _ _ _ _ _ (start .pre) (A .rows) _ (written _ _ _ (A .peeled) _ (omega arith) (wrote .write-labels .ensures))
 
 pub run-labels-spec : {M : Type 1} → statement M
 run-labels-spec =

@@ -7,7 +7,7 @@ use Rattle.maps_call.proofs.backward.Statement.{statement}
 use Rattle.maps_call.proofs.backward.Tie as tie
 
 returns : tie.Need-returns
-returns c = backward-early _ _ _ _ _ _ (search) (search)
+returns c = backward-early _ _ _ _ _ _ _ (search) (search)
 
 run-backward-requires : tie.Need-run-backward-requires
 run-backward-requires c κs = search map-lengths
@@ -19,7 +19,7 @@ returns-2 c =
       run .run-backward .ensures .0,
       (
         run .run-backward .ensures .1,
-        backward-scratch _ _ _ _ _ (map-lengths _ _ _ _ _ _ (rows .map-rows .ensures) (search)) (run .run-backward .last .1 .1 .1 .1 .0) _ (omega arith)
+        backward-scratch _ _ _ _ _ _ (map-lengths _ _ _ _ _ _ (rows .map-rows .ensures) (search)) (run .run-backward .last .1 .1 .1 .1 .1 .0) _ (omega arith)
             (c .before .clear .ensures),
       ),
     )

@@ -7,7 +7,7 @@ use Rattle.maps_call.proofs.forward.Statement.{statement}
 use Rattle.maps_call.proofs.forward.Tie as tie
 
 returns : tie.Need-returns
-returns c = forward-early _ _ _ _ _ _ (search) (search)
+returns c = forward-early _ _ _ _ _ _ _ (search) (search)
 
 run-forward-requires : tie.Need-run-forward-requires
 run-forward-requires c κs = search map-lengths
@@ -19,7 +19,7 @@ returns-2 c =
       run .run-forward .ensures .0,
       (
         run .run-forward .ensures .1,
-        forward-scratch _ _ _ _ _ (map-lengths _ _ _ _ _ _ (rows .map-rows .ensures) (search)) (run .run-forward .last .1 .1 .1 .1 .0) _ (omega arith)
+        forward-scratch _ _ _ _ _ _ (map-lengths _ _ _ _ _ _ (rows .map-rows .ensures) (search)) (run .run-forward .last .1 .1 .1 .1 .1 .0) _ (omega arith)
             (c .before .clear .ensures),
       ),
     )

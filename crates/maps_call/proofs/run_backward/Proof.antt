@@ -1,6 +1,7 @@
 -- `maps_call::run_backward` meets its contract: each way out is a law of the definition. Assumes nothing.
 use mathlib.Core.Path.{sym, _∙_}
 use native.Mathlib.Omega.{arith}
+use Rattle.definitions.specs.Mesh.{fronted}
 use Rattle.definitions.specs.Labels.{labels}
 use Rattle.maps_backward.specs.Weights.{LabelledDrawing, length-backward}
 use Rattle.labels_call.specs.Labelling.{labelled-refused, labelled-accepted}
@@ -13,22 +14,22 @@ returns : tie.Need-returns
 returns c =
     let start : tie.Start = search in
     let labelled : tie.After-label-mesh = search in
-    backward-mesh _ _ _ _ _ (start .pre) _ _ (labelled-refused _ _ (labelled .label-mesh .last .1 .1 .0) (labelled .label-mesh .result) _
+    backward-mesh _ _ _ _ _ _ (start .pre) _ _ (labelled-refused _ _ _ (labelled .label-mesh .last .1 .1 .1 .0) (labelled .label-mesh .result) _
     (c .before .enum-told2 .given .1) (labelled .label-mesh .ensures)) (search)
 
 returns-2 : tie.Need-returns-2
 returns-2 c =
     let start : tie.Start = search in
     let labelled : tie.After-label-mesh = search in
-    let A = labelled-accepted _ _ (labelled .label-mesh .last .1 .1 .0) (labelled .label-mesh .result) (search) (labelled .label-mesh .ensures) in
-    backward-10 _ _ _ _ _ (start .pre) (A .0 .2) (cc)
+    let A = labelled-accepted _ _ _ (labelled .label-mesh .last .1 .1 .1 .0) (labelled .label-mesh .result) (search) (labelled .label-mesh .ensures) in
+    backward-10 _ _ _ _ _ _ (start .pre) (A .rows) (cc)
 
 off-corner-requires : tie.Need-off-corner-requires
 off-corner-requires c κs =
     let start : tie.Start = search in
     let labelled : tie.After-label-mesh = search in
-    let A = labelled-accepted _ _ (labelled .label-mesh .last .1 .1 .0) (labelled .label-mesh .result) (search) (labelled .label-mesh .ensures) in
-    (_, start .args .triangles .now, _, A .1 .labelled, omega arith)
+    let A = labelled-accepted _ _ _ (labelled .label-mesh .last .1 .1 .1 .0) (labelled .label-mesh .result) (search) (labelled .label-mesh .ensures) in
+    (_, fronted (start .args .outer) (start .args .triangles .now), _, A .peeled .labelled, omega arith)
 
 returns-3 : tie.Need-returns-3
 returns-3 c =
@@ -36,18 +37,18 @@ returns-3 c =
     let labelled : tie.After-label-mesh = search in
     let accepted : tie.After-enum-told = search in
     let corner : tie.After-off-corner = search in
-    let A = labelled-accepted _ _ (labelled .label-mesh .last .1 .1 .0) (labelled .label-mesh .result) (accepted .enum-told .given .1)
+    let A = labelled-accepted _ _ _ (labelled .label-mesh .last .1 .1 .1 .0) (labelled .label-mesh .result) (accepted .enum-told .given .1)
     (labelled .label-mesh .ensures) in
-    backward-11 _ _ _ _ _ (start .pre) (A .0 .2) (cc) (sym (corner .off-corner .ensures _ _ _ (A .1 .labelled)) ∙ c .if2 .taken)
+    backward-11 _ _ _ _ _ _ (start .pre) (A .rows) (cc) (sym (corner .off-corner .ensures _ _ _ (A .peeled .labelled)) ∙ c .if2 .taken)
 
 off-sum-requires : tie.Need-off-sum-requires
 off-sum-requires c κs =
     let start : tie.Start = search in
     let labelled : tie.After-label-mesh = search in
     let accepted : tie.After-enum-told = search in
-    let A = labelled-accepted _ _ (labelled .label-mesh .last .1 .1 .0) (labelled .label-mesh .result) (accepted .enum-told .given .1)
+    let A = labelled-accepted _ _ _ (labelled .label-mesh .last .1 .1 .1 .0) (labelled .label-mesh .result) (accepted .enum-told .given .1)
     (labelled .label-mesh .ensures) in
-    ((start .args .triangles .now, _, A .1 .labelled), omega arith, (cc))
+    ((fronted (start .args .outer) (start .args .triangles .now), _, A .peeled .labelled), omega arith, (cc))
 
 returns-4 : tie.Need-returns-4
 returns-4 c =
@@ -57,10 +58,10 @@ returns-4 c =
     let corner : tie.After-off-corner = search in
     let on-corner : tie.Else2 = search in
     let sum : tie.After-off-sum = search in
-    let A = labelled-accepted _ _ (labelled .label-mesh .last .1 .1 .0) (labelled .label-mesh .result) (accepted .enum-told .given .1)
+    let A = labelled-accepted _ _ _ (labelled .label-mesh .last .1 .1 .1 .0) (labelled .label-mesh .result) (accepted .enum-told .given .1)
     (labelled .label-mesh .ensures) in
-    backward-12 _ _ _ _ _ (start .pre) (A .0 .2) (cc) (sym (corner .off-corner .ensures _ _ _ (A .1 .labelled)) ∙ on-corner .if2 .left)
-    (sym (sum .off-sum .ensures _ _ (A .1 .labelled)) ∙ c .if3 .taken)
+    backward-12 _ _ _ _ _ _ (start .pre) (A .rows) (cc) (sym (corner .off-corner .ensures _ _ _ (A .peeled .labelled)) ∙ on-corner .if2 .left)
+    (sym (sum .off-sum .ensures _ _ (A .peeled .labelled)) ∙ c .if3 .taken)
 
 weights-past-limit-requires : tie.Need-weights-past-limit-requires
 weights-past-limit-requires c κs =
@@ -69,9 +70,10 @@ weights-past-limit-requires c κs =
     let accepted : tie.After-enum-told = search in
     let in-range : tie.Else1 = search in
     let range : tie.After-out-of-range = search in
-    let A = labelled-accepted _ _ (labelled .label-mesh .last .1 .1 .0) (labelled .label-mesh .result) (accepted .enum-told .given .1)
+    let A = labelled-accepted _ _ _ (labelled .label-mesh .last .1 .1 .1 .0) (labelled .label-mesh .result) (accepted .enum-told .given .1)
     (labelled .label-mesh .ensures) in
-    ((start .args .triangles .now, _, A .1 .labelled), omega arith, sym (range .out-of-range .ensures) ∙ in-range .if1 .left)
+    let mesh = fronted (start .args .outer) (start .args .triangles .now) in
+    ((mesh, _, A .peeled .labelled), omega arith, sym (range .out-of-range .ensures) ∙ in-range .if1 .left)
 
 returns-5 : tie.Need-returns-5
 returns-5 c =
@@ -85,20 +87,19 @@ returns-5 c =
     let corner : tie.After-off-corner = search in
     let in-range : tie.Else1 = search in
     let range : tie.After-out-of-range = search in
-    let A = labelled-accepted _ _ (labelled .label-mesh .last .1 .1 .0) (labelled .label-mesh .result) (accepted .enum-told .given .1)
+    let A = labelled-accepted _ _ _ (labelled .label-mesh .last .1 .1 .1 .0) (labelled .label-mesh .result) (accepted .enum-told .given .1)
     (labelled .label-mesh .ensures) in
     let ten = sym (range .out-of-range .ensures) ∙ in-range .if1 .left in
-    let eleven = sym (corner .off-corner .ensures _ _ _ (A .1 .labelled)) ∙ on-corner .if2 .left in
-    let twelve = sym (sum .off-sum .ensures _ _ (A .1 .labelled)) ∙ on-sum .if3 .left in
-    let drawing : LabelledDrawing _ _ _ _ _ = record { peeled = A .1; corners = eleven; sums = twelve } in
+    let eleven = sym (corner .off-corner .ensures _ _ _ (A .peeled .labelled)) ∙ on-corner .if2 .left in
+    let twelve = sym (sum .off-sum .ensures _ _ (A .peeled .labelled)) ∙ on-sum .if3 .left in
+    let drawing : LabelledDrawing _ _ _ _ _ = record { peeled = A .peeled; corners = eleven; sums = twelve } in
     let nine = past .weights-past-limit .ensures .0 _ _ drawing in
-    backward-9 _ _ _ _ _ (start .pre) (A .0 .2) ten eleven twelve (sym nine ∙ c .if4 .taken)
+    backward-9 _ _ _ _ _ _ (start .pre) (A .rows) ten eleven twelve (sym nine ∙ c .if4 .taken)
 
 returns-6 : tie.Need-returns-6
 returns-6 c =
     let start : tie.Start = search in
     let labelled : tie.After-label-mesh = search in
-    let accepted : tie.After-enum-told = search in
     let past : tie.After-weights-past-limit = search in
     let wrote : tie.After-write-weights = search in
     let within : tie.Else4 = search in
@@ -108,15 +109,17 @@ returns-6 c =
     let corner : tie.After-off-corner = search in
     let in-range : tie.Else1 = search in
     let range : tie.After-out-of-range = search in
-    let A = labelled-accepted _ _ (labelled .label-mesh .last .1 .1 .0) (labelled .label-mesh .result) (accepted .enum-told .given .1)
+    let accepted : tie.After-enum-told = search in
+    let A = labelled-accepted _ _ _ (labelled .label-mesh .last .1 .1 .1 .0) (labelled .label-mesh .result) (accepted .enum-told .given .1)
     (labelled .label-mesh .ensures) in
     let ten = sym (range .out-of-range .ensures) ∙ in-range .if1 .left in
-    let eleven = sym (corner .off-corner .ensures _ _ _ (A .1 .labelled)) ∙ on-corner .if2 .left in
-    let twelve = sym (sum .off-sum .ensures _ _ (A .1 .labelled)) ∙ on-sum .if3 .left in
-    let drawing : LabelledDrawing _ _ _ _ _ = record { peeled = A .1; corners = eleven; sums = twelve } in
+    let eleven = sym (corner .off-corner .ensures _ _ _ (A .peeled .labelled)) ∙ on-corner .if2 .left in
+    let twelve = sym (sum .off-sum .ensures _ _ (A .peeled .labelled)) ∙ on-sum .if3 .left in
+    let drawing : LabelledDrawing _ _ _ _ _ = record { peeled = A .peeled; corners = eleven; sums = twelve } in
     let nine = past .weights-past-limit .ensures .0 _ _ drawing in
-    let long = length-backward (start .args .triangles .now) (labels (start .args .n) (start .args .triangles .now)) (start .args .coordinates .now) in
-    backward-done _ _ _ _ _ (start .pre) (A .0 .2) ten eleven twelve (sym nine ∙ within .if4 .left) _
+    let mesh = fronted (start .args .outer) (start .args .triangles .now) in
+    let long = length-backward mesh (labels (start .args .n) mesh) (start .args .coordinates .now) in
+    backward-done _ _ _ _ _ _ (start .pre) (A .rows) ten eleven twelve (sym nine ∙ within .if4 .left) _
     (wrote .write-weights .ensures _ (past .weights-past-limit .ensures .1 (within .if4 .left) _ _ drawing) (omega (arith, long)))
 
 write-weights-requires : tie.Need-write-weights-requires

@@ -9,7 +9,7 @@ use Rattle.mesh_check.proofs.check.Statement.{statement}
 use Rattle.mesh_check.proofs.check.Tie as tie
 
 returns : tie.Need-returns
-returns c = gives-early _ _ _ _ (search) (search)
+returns c = gives-early _ _ _ _ _ (search) (search)
 
 examine-requires : tie.Need-examine-requires
 examine-requires c κs =
@@ -21,7 +21,7 @@ returns-2 : tie.Need-returns-2
 returns-2 c =
     let rows : tie.After-mesh-rows = search in
     let examined : tie.After-examine = search in
-    gives-examined _ _ _ (has-fits _ _ _ _ _ (rows .mesh-rows .ensures) (search)) (examined .examine .last .1 .1 .0) _ (examined .examine .result)
+    gives-examined _ _ _ _ (has-fits _ _ _ _ _ (rows .mesh-rows .ensures) (search)) (examined .examine .last .1 .1 .1 .0) _ (examined .examine .result)
     (examined .examine .ensures) (omega arith) (c .before .clear .ensures)
 
 pub check-spec : {M : Type 1} → statement M

@@ -6,13 +6,17 @@ use Rattle.mesh_check.proofs.pair_sides.Statement.{statement}
 use Rattle.mesh_check.proofs.pair_sides.Tie as tie
 
 high-vertex-requires : tie.Need-high-vertex-requires
-high-vertex-requires c κs = let start : tie.Start = search in omega (arith, start .pre .least)
+high-vertex-requires c κs = let start : tie.Start = search in omega (arith, start .pre .lent .least)
 
 returns : tie.Need-returns
 returns c = search refuse3
 
 fill-incidence-lists-requires : tie.Need-fill-incidence-lists-requires
-fill-incidence-lists-requires c κs = search can-fill
+fill-incidence-lists-requires c κs =
+    let start : tie.Start = search in
+    let high : tie.After-high-vertex = search in
+    let cleared : tie.After-clear-vertices = search in
+    can-fill _ _ _ _ _ _ (start .pre) (high .high-vertex .ensures) (search) (omega arith) (cleared .clear-vertices .ensures)
 
 returns-2 : tie.Need-returns-2
 returns-2 c = search refuse4
@@ -23,7 +27,7 @@ match-sides-requires c κs =
     let high : tie.After-high-vertex = search in
     let cleared : tie.After-clear-vertices = search in
     let filled : tie.After-fill-incidence-lists = search in
-    can-match _ _ _ _ _ (start .pre) _ (high .high-vertex .ensures) (search) (omega arith) (cleared .clear-vertices .ensures) _
+    can-match _ _ _ _ _ _ (start .pre) _ (high .high-vertex .ensures) (search) (omega arith) (cleared .clear-vertices .ensures) _
     (filled .fill-incidence-lists .ensures) (search) (omega arith)
 
 returns-3 : tie.Need-returns-3
@@ -42,7 +46,7 @@ check-rings-requires c κs =
     let cleared : tie.After-clear-vertices = search in
     let filled : tie.After-fill-incidence-lists = search in
     let matched : tie.After-match-sides = search in
-    can-round _ _ _ _ _ (start .pre) _ (high .high-vertex .ensures) (search) (omega arith) (cleared .clear-vertices .ensures) _
+    can-round _ _ _ _ _ _ (start .pre) _ (high .high-vertex .ensures) (search) (omega arith) (cleared .clear-vertices .ensures) _
     (filled .fill-incidence-lists .ensures) (search) _ _ (matched .match-sides .ensures) (search) (search) (omega arith)
 
 returns-6 : tie.Need-returns-6

@@ -1,56 +1,56 @@
--- `mesh_sides::fill_incidence_lists` meets its contract. The loop's invariant: filling from d down gives what all the filling
--- gives. Assumes nothing.
+-- `mesh_sides::fill_incidence_lists` meets its contract: the triangles behind the outer one, those before it, and the outer one. Assumes nothing.
 use native.Mathlib.Omega.{arith}
-use Rattle.mesh_sides.specs.LoopInvariants.{Filled, filled-start, filled-pushing, filled-twice, filled-next, filled-all}
+use Rattle.mesh_sides.specs.LoopInvariants.{can-fill-behind, behind-found, can-fill-before, before-found, outer-pushing, outer-pushed}
 use borrow.Author.Needs.{needs}
 use Rattle.mesh_sides.proofs.fill_incidence_lists.Statement.{statement}
 use Rattle.mesh_sides.proofs.fill_incidence_lists.Tie as tie
 
-abbrev Inv-loop : tie.InvT-loop
-Inv-loop triangles s₀ d₀ s d = Filled triangles s₀ s d
+fill-behind-requires : tie.Need-fill-behind-requires
+fill-behind-requires c κs = let start : tie.Start = search in can-fill-behind _ _ _ (start .pre)
 
-abbrev μ-loop : tie.MeasureT-loop
-μ-loop triangles s₀ d₀ s d = d
+returns : tie.Need-returns
+returns c = search behind-found
 
-loop-holds : tie.Need-loop-holds Inv-loop μ-loop
-loop-holds c = search filled-start
+fill-before-requires : tie.Need-fill-before-requires
+fill-before-requires c κs =
+    let start : tie.Start = search in
+    let behind : tie.After-fill-behind = search in
+    can-fill-before _ _ _ (start .pre) _ _ (behind .fill-behind .ensures) (search)
 
-sub-d : tie.Need-sub-d Inv-loop μ-loop
-sub-d c = let at : tie.At-loop Inv-loop μ-loop = search in omega (arith, at .loop .inv .first)
+returns-2 : tie.Need-returns-2
+returns-2 c =
+    let start : tie.Start = search in
+    let behind : tie.After-fill-behind = search in
+    let before : tie.After-fill-before = search in
+    before-found _ _ _ (start .pre) _ _ (behind .fill-behind .ensures) (search) _ _ (before .fill-before .ensures) (search) _
 
-push-triangle-requires : tie.Need-push-triangle-requires Inv-loop μ-loop
-push-triangle-requires c κs = search filled-pushing
+push-triangle-requires : tie.Need-push-triangle-requires
+push-triangle-requires c κs =
+    let start : tie.Start = search in
+    let behind : tie.After-fill-behind = search in
+    let before : tie.After-fill-before = search in
+    outer-pushing _ _ _ (start .pre) _ _ (behind .fill-behind .ensures) (search) _ _ (before .fill-before .ensures) (search)
 
-same-length : tie.Need-same-length Inv-loop μ-loop
-same-length c = omega arith
-
-returns : tie.Need-returns Inv-loop μ-loop
-returns c = search filled-twice
-
-loop-less : tie.Need-loop-less Inv-loop μ-loop
-loop-less c = let at : tie.At-loop Inv-loop μ-loop = search in omega (arith, at .loop .inv .first)
-
-loop-again : tie.Need-loop-again Inv-loop μ-loop
-loop-again c = search filled-next
-
-same-length-2 : tie.Need-same-length-2 Inv-loop μ-loop
-same-length-2 c = omega arith
-
-returns-2 : tie.Need-returns-2 Inv-loop μ-loop
-returns-2 c = search filled-all
+returns-3 : tie.Need-returns-3
+returns-3 c =
+    let start : tie.Start = search in
+    let behind : tie.After-fill-behind = search in
+    let before : tie.After-fill-before = search in
+    let pushed : tie.After-push-triangle = search in
+    outer-pushed _ _ _ (start .pre) _ _ (behind .fill-behind .ensures) (search) _ _ (before .fill-before .ensures) (search) _ _ (omega arith)
+    (pushed .push-triangle .ensures)
 
 pub fill-incidence-lists-spec : {M : Type 1} → statement M
 fill-incidence-lists-spec =
     tie.close
     (tie.spec
-    Inv-loop
-    μ-loop
-    loop-holds
-    sub-d
-    push-triangle-requires
-    same-length
+    fill-behind-requires
+    (λ c. search needs)
     returns
-    loop-less
-    loop-again
-    same-length-2
-    returns-2)
+    fill-before-requires
+    (λ c. search needs)
+    returns-2
+    (λ c. search needs)
+    push-triangle-requires
+    (λ c. search needs)
+    returns-3)

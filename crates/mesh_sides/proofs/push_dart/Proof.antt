@@ -18,7 +18,6 @@ push-dart-spec =
     (λ c κs. search needs)
     (λ c κs. search needs)
     (λ c κs. search needs)
-    (λ c κs. search needs)
     (λ c. search needs)
     set-list-requires
     (λ c. search needs)

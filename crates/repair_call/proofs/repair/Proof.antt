@@ -7,7 +7,7 @@ use Rattle.repair_call.proofs.repair.Statement.{statement}
 use Rattle.repair_call.proofs.repair.Tie as tie
 
 returns : tie.Need-returns
-returns c = gives-early _ _ _ _ _ _ (search) (search)
+returns c = gives-early _ _ _ _ _ _ _ (search) (search)
 
 run-repair-requires : tie.Need-run-repair-requires
 run-repair-requires c κs = search map-lengths
@@ -15,7 +15,7 @@ run-repair-requires c κs = search map-lengths
 returns-2 : tie.Need-returns-2
 returns-2 c =
     let run : tie.After-run-repair = search in
-    gives-run _ _ _ _ _ _ _ _ (run .run-repair .ensures) (run .run-repair .last .1 .1 .1 .1 .0) _ (omega arith) (c .before .clear .ensures)
+    gives-run _ _ _ _ _ _ _ _ _ (run .run-repair .ensures) (run .run-repair .last .1 .1 .1 .1 .1 .0) _ (omega arith) (c .before .clear .ensures)
 
 pub repair-spec : {M : Type 1} → statement M
 repair-spec =
