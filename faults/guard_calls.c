@@ -362,12 +362,12 @@ static void checked_shells(void) {
     label(five, 0, (const uint8_t[]){0, 1, 2, 0, 1, 2, 0, 1, 2, 1, 2, 0, 2, 0, 1});
     both_ways(five, (const int64_t[]){1, 1, 1, 1, 1}, (const int64_t[]){5, 0, 0, 0, 5, 0, 0, 0, 5, 1, 1, 3, 2, 2, 1});
     both_ways(tetra, (const int64_t[]){5, 3, 2}, (const int64_t[]){10, 0, 0, 0, 10, 0, 0, 0, 10, 3, 5, 2});
-    repair(tetra, (const int64_t[]){5, 3, -1}, 0, 1, (const int64_t[]){5, 3, 1},
-           (const int64_t[]){9, 0, 0, 0, 9, 0, 0, 0, 9, 3, 5, 1});
-    repair(tetra, (const int64_t[]){0, 0, 0}, 0, 3, (const int64_t[]){1, 1, 1},
-           (const int64_t[]){3, 0, 0, 0, 3, 0, 0, 0, 3, 1, 1, 1});
-    repair(tetra, (const int64_t[]){-1, -1, -1}, 0, 0, NULL,
-           (const int64_t[]){-3, 0, 0, 0, -3, 0, 0, 0, -3, -1, -1, -1});
+    both_ways(tetra, (const int64_t[]){-1, -1, -1}, (const int64_t[]){-3, 0, 0, 0, -3, 0, 0, 0, -3, -1, -1, -1});
+    for (size_t k = 0; k < REPAIRED_COUNT; k++) {
+        const struct repaired *r = &REPAIRED[k];
+        repair(fitting("repair by hand", r->n, r->triangles), r->weights, r->number, r->count, r->raised,
+               r->coordinates);
+    }
     /* Opened at (0, 1, 3), v0 is 0, v2 is 1 and v1 is 3. The first triangle is on v0 v2, the second on v0 v1. */
     const struct mesh other = opened_at(3, tetra);
     label(other, 0, (const uint8_t[]){0, 1, 2, 0, 1, 2, 1, 2, 0});
@@ -425,13 +425,6 @@ static void rows_of_numbers(void) {
     };
     for (size_t k = 0; k < sizeof bent / sizeof *bent; k++)
         backward(tetra, bent[k].coordinates, bent[k].number, NULL);
-    /* The first triangle is turned and its raise would be by 1,073,741,821. */
-    const int64_t m = 1073741821;
-    repair(tetra, (const int64_t[]){1, -m, 1}, 13, 0, NULL,
-           (const int64_t[]){2 - m, 0, 0, 0, 2 - m, 0, 0, 0, 2 - m, -m, 1, 1});
-    /* The first triangle is raised by 1, and the second's raise by 1 would pass L. */
-    repair(tetra, (const int64_t[]){0, 0, L - 1}, 13, 1, (const int64_t[]){1, 0, L - 1},
-           (const int64_t[]){L, 0, 0, 0, L, 0, 0, 0, L, 0, 1, L - 1});
 }
 
 /* --- Stacks --- */
@@ -473,6 +466,9 @@ static void stacks(size_t n) {
     uint64_t count = stack_raised(n, raised);
     stack_coordinates(n, raised, coordinates);
     repair(m, weights, 0, count, raised, coordinates);
+    weights[0] = -7;
+    repair(m, weights, 0, count, raised, coordinates);
+    weights[0] = 0;
 
     /* All weight on the last triangle: the others are flat, and are raised by 1 until that would pass L. */
     weights[inner - 1] = L;

@@ -127,10 +127,14 @@ static void papers_texts(void) {
            "pack-map\t3\t7\t0\nv\t0\t7\t0\t0\nv\t1\t0\t7\t0\nv\t2\t0\t0\t7\n");
     listed("P4", job_text(5, FIVE, (const int64_t[]){1, 1, 1, 1, 1}),
            "pack-map\t5\t5\t0\nv\t0\t5\t0\t0\nv\t1\t0\t5\t0\nv\t2\t0\t0\t5\nv\t3\t1\t1\t3\nv\t4\t2\t2\t1\n");
-    listed("P7", job_text(4, TETRA, (const int64_t[]){0, 0, 0}),
-           "pack-map\t4\t3\t3\nv\t0\t3\t0\t0\nv\t1\t0\t3\t0\nv\t2\t0\t0\t3\nv\t3\t1\t1\t1\n");
-    listed("P8", job_text(4, TETRA, (const int64_t[]){-1, -1, -1}),
-           "pack-map\t4\t-3\t0\nv\t0\t-3\t0\t0\nv\t1\t0\t-3\t0\nv\t2\t0\t0\t-3\nv\t3\t-1\t-1\t-1\n");
+    for (size_t k = 0; k < REPAIRED_COUNT; k++) {
+        const struct repaired *r = &REPAIRED[k];
+        const char *text = job_text(r->n, r->triangles, r->weights);
+        if (r->number == 0)
+            listed("repair by hand", text, job_listing(r->n, r->count, r->coordinates));
+        else
+            refused(text, r->number, 0);
+    }
 }
 
 static void layout(void) {
@@ -200,8 +204,6 @@ static void meshes_and_weights(void) {
     refused(job_text(4, TETRA, heavy), 9, 0);
     refused(job_text(4, TETRA, (const int64_t[]){L, 1, 0}), 9, 0);
     refused(job_text(4, TETRA, (const int64_t[]){INT32_MAX, INT32_MAX, 2}), 9, 0);
-    refused(job_text(4, TETRA, (const int64_t[]){1, -1073741821, 1}), 13, 0);
-    refused(job_text(4, TETRA, (const int64_t[]){0, 0, L - 1}), 13, 0);
 }
 
 static void stacks(size_t n) {
@@ -216,6 +218,8 @@ static void stacks(size_t n) {
     uint64_t raises = stack_raised(n, raised);
     stack_coordinates(n, raised, b);
     listed("stack, no weight", job_text(n, triangles, weights), job_listing(n, raises, b));
+    weights[0] = -7;
+    listed("stack, N below 1", job_text(n, triangles, weights), job_listing(n, raises, b));
     for (size_t t = 0; t < 2 * n - 5; t++)
         weights[t] = 1 + (int64_t)t * 1000;
     stack_coordinates(n, weights, b);

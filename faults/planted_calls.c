@@ -82,14 +82,92 @@ uint64_t __wrap_packmap_backward(MESH, const int64_t *b, size_t b_len, int64_t *
     return number;
 }
 
+/* Corners of the inner triangles by label. */
+static uint16_t corner[PACKMAP_WEIGHTS(PACKMAP_MOST_VERTICES)][3];
+
+static void find_corners(MESH, SCRATCH) {
+    static uint8_t labels[PACKMAP_LABELS(PACKMAP_MOST_VERTICES)];
+    __real_packmap_labels(GIVEN_MESH, labels, PACKMAP_LABELS(n), GIVEN_SCRATCH);
+    for (size_t k = 0; k < PACKMAP_LABELS(n); k++)
+        corner[k / 3][labels[k]] = triangles[k < 3 * outer ? k : k + 3];
+}
+
+static int64_t own_raise(size_t t, const int64_t *b) {
+    int64_t m = INT64_MIN;
+    for (int c = 0; c < 3; c++)
+        for (int d = 0; d < 3; d++) {
+            int64_t lacks = b[3 * corner[t][d] + c] - b[3 * corner[t][c] + c];
+            if (d != c && lacks > m)
+                m = lacks;
+        }
+    return 1 + m;
+}
+
+static bool flat_or_turned(size_t t, const int64_t *b) {
+    const int64_t *p = b + 3 * corner[t][0], *q = b + 3 * corner[t][1], *r = b + 3 * corner[t][2];
+    return (q[0] - p[0]) * (r[1] - p[1]) - (q[1] - p[1]) * (r[0] - p[0]) <= 0;
+}
+
+/* Raises a weight and counts it; false if the weights would be too large, and nothing is done. */
+static bool raised(int64_t *weights, size_t weights_len, size_t t, int64_t raise, uint64_t *count) {
+    int64_t sum = 0;
+    weights[t] += raise;
+    for (size_t k = 0; k < weights_len; k++)
+        sum += weights[k] < 0 ? -weights[k] : weights[k];
+    if (sum > PACKMAP_LIMIT) {
+        weights[t] -= raise;
+        return false;
+    }
+    ++*count;
+    return true;
+}
+
+/* Repair of weights that nothing but 13 refuses, raise by raise, with a fault in the first one. */
+static uint64_t repair_with_fault(MESH, int64_t *weights, size_t weights_len, int64_t *b, size_t b_len, SCRATCH) {
+    const int64_t enough = planted("takes N = 0 for enough") ? 0 : planted("takes N = 1 for too little") ? 2 : 1;
+    uint64_t none;
+    find_corners(GIVEN_MESH, scratch, scratch_len, &none);
+    __real_packmap_forward(GIVEN_MESH, weights, weights_len, b, b_len, scratch, scratch_len, &none);
+    const int64_t total = b[3 * triangles[3 * outer]], own = own_raise(0, b), rest = 1 - total;
+    *carried = 0;
+    if (total < enough && !planted("leaves out the first raise")) {
+        const bool by_own =
+            planted("raises first by its own raise alone") || (own > rest && !planted("raises first by 1 - N alone"));
+        const int64_t first = by_own ? own : rest;
+        if (!raised(weights, weights_len, 0, first, carried) && !planted("passes over a first raise that 13 refuses")) {
+            if (planted("makes the first raise although 13"))
+                weights[0] += first;
+            return PACKMAP_REFUSED_RAISE;
+        }
+        if (planted("does not count the first raise"))
+            *carried = 0;
+    }
+    for (;;) {
+        size_t t = 0;
+        __real_packmap_forward(GIVEN_MESH, weights, weights_len, b, b_len, scratch, scratch_len, &none);
+        while (t < weights_len && !flat_or_turned(t, b))
+            t++;
+        if (t == weights_len)
+            return PACKMAP_DONE;
+        if (!raised(weights, weights_len, t, own_raise(t, b), carried))
+            return PACKMAP_REFUSED_RAISE;
+    }
+}
+
 uint64_t __real_packmap_repair(MESH, int64_t *weights, size_t weights_len, int64_t *b, size_t b_len, SCRATCH);
 uint64_t __wrap_packmap_repair(MESH, int64_t *weights, size_t weights_len, int64_t *b, size_t b_len, SCRATCH) {
+    static int64_t lent[PACKMAP_WEIGHTS(PACKMAP_MOST_VERTICES) + 1];
     if (planted("24n words are let through") && scratch_len == 24 * n)
         scratch_len = 10 * n;
     if (planted("asks 21 of three times the number") && 3 * outer < triangles_len)
         outer = 3 * outer / 3;
     int64_t held = planted("keeps a word of scratch on 21") && scratch_len > 0 ? *scratch : 0;
+    memcpy(lent, weights, weights_len * sizeof *weights);
     uint64_t number = __real_packmap_repair(GIVEN_MESH, weights, weights_len, b, b_len, GIVEN_SCRATCH);
+    if (planted_in_first_raise() && (number == PACKMAP_DONE || number == PACKMAP_REFUSED_RAISE)) {
+        memcpy(weights, lent, weights_len * sizeof *weights);
+        return repair_with_fault(GIVEN_MESH, weights, weights_len, b, b_len, GIVEN_SCRATCH);
+    }
     if (planted("counts the raise that 13 refuses") && number == 13)
         ++*carried;
     if (planted("keeps a word of scratch on 21") && number == 21)

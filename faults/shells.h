@@ -1,4 +1,5 @@
-/* Meshes whose answers are known from the papers without a program: document 01's shells, and a stack of any size.
+/* Meshes whose answers are known from the papers without a program: document 01's shells, repairs worked out by hand,
+ * and a stack of any size.
  *
  * The stack: vertex 2 on top, 3 to n - 1 below it in turn, all joined to 0 and 1. Its inner triangles, in order, are
  * for each k from 3 to n - 1 a left one (0, k, k - 1) and a right one (k, 1, k - 1), then the last, (0, 1, n - 1).
@@ -19,6 +20,58 @@ enum { MOST = 4096, CORNERS = 3 * (2 * MOST - 4), WEIGHTS_MOST = 2 * MOST - 5 };
 static const uint16_t PAIR[] = {0, 2, 1, 0, 1, 2};
 static const uint16_t TETRA[] = {0, 2, 1, 0, 3, 2, 3, 1, 2, 0, 1, 3};
 static const uint16_t FIVE[] = {0, 2, 1, 0, 3, 2, 3, 1, 2, 0, 1, 4, 1, 3, 4, 3, 0, 4};
+
+/* Repairs worked out by hand: P6 to P8, row 13's example, and others with N below 1, where inner triangle 1 is raised
+ * first, or just 1.
+ *
+ * On the tetra vertex 3 is at (w2, w1, w3). The area of a triangle is its weight times N, and its raise is by 1 plus
+ * the larger of these: its weight taken from 0; the largest of 0 and the two other weights, less N.
+ *
+ * The last mesh is P3 with (1, 3, 4) as inner triangle 1, which has no side on the rim. With the weights u, x, y, z, s
+ * vertex 3 is at (y, x, u + z + s) and vertex 4 at (y + u, x + s, z). Where x is -M and only u else is not 0, the first
+ * triangle has area u times u. Its own raise is by 1 - u, and 1 - N is M more: u becomes M + 1 and N 1. Then (0, 3, 2)
+ * is turned and has m = M: x becomes 1. Now (3, 1, 2) and (0, 1, 4) are flat with m = 0, and (3, 0, 4) is upright. */
+static const uint16_t INSIDE[] = {0, 2, 1, 1, 3, 4, 0, 3, 2, 3, 1, 2, 0, 1, 4, 3, 0, 4};
+enum { H = L / 2 }; /* twice this and 1 is L */
+
+static const struct repaired {
+    size_t n;
+    const uint16_t *triangles;
+    int64_t weights[5];
+    uint64_t number, count;
+    int64_t raised[5], coordinates[15];
+} REPAIRED[] = {
+    {3, PAIR, {-7}, 0, 1, {1}, {1, 0, 0, 0, 1, 0, 0, 0, 1}},
+    {3, PAIR, {-L}, 0, 1, {1}, {1, 0, 0, 0, 1, 0, 0, 0, 1}},
+    {4, TETRA, {5, 3, -1}, 0, 1, {5, 3, 1}, {9, 0, 0, 0, 9, 0, 0, 0, 9, 3, 5, 1}},
+    {4, TETRA, {0, 0, 0}, 0, 3, {1, 1, 1}, {3, 0, 0, 0, 3, 0, 0, 0, 3, 1, 1, 1}},
+    /* P8: all areas are 3. By 4 either way, by 3 and by 2; then the same from N = 1 on. */
+    {4, TETRA, {-1, -1, -1}, 0, 3, {3, 2, 1}, {6, 0, 0, 0, 6, 0, 0, 0, 6, 2, 3, 1}},
+    {4, TETRA, {3, -1, -1}, 0, 2, {3, 2, 1}, {6, 0, 0, 0, 6, 0, 0, 0, 6, 2, 3, 1}},
+    /* By 1 + 5 - N, which is 8 and past 1 - N, then the third by 1 + 6. Only the second was turned. */
+    {4, TETRA, {-1, 5, -6}, 0, 2, {7, 5, 1}, {13, 0, 0, 0, 13, 0, 0, 0, 13, 5, 7, 1}},
+    /* The first raise, by 2 - N, would pass L. */
+    {4, TETRA, {1, 2 - L, 1}, 13, 0, {1, 2 - L, 1}, {4 - L, 0, 0, 0, 4 - L, 0, 0, 0, 4 - L, 2 - L, 1, 1}},
+    /* All areas are above 0, and the first raise, by 1 - N, would pass L. */
+    {4, TETRA, {-1, -1, 2 - L}, 13, 0, {-1, -1, 2 - L}, {-L, 0, 0, 0, -L, 0, 0, 0, -L, -1, -1, 2 - L}},
+    /* The first raise, by 1 - N, brings the sum to L; the second triangle is flat then. */
+    {4, TETRA, {-1, 0, -H}, 13, 1, {H + 1, 0, -H}, {1, 0, 0, 0, 1, 0, 0, 0, 1, 0, H + 1, -H}},
+    /* The first triangle, which is flat, is raised by 1, and the second's raise by 1 would pass L. */
+    {4, TETRA, {0, 0, L - 1}, 13, 1, {1, 0, L - 1}, {L, 0, 0, 0, L, 0, 0, 0, L, 0, 1, L - 1}},
+    {5, INSIDE, {-3, -5}, 0, 4, {6, 1, 1, 1}, {9, 0, 0, 0, 9, 0, 0, 0, 9, 1, 1, 7, 7, 1, 1}},
+    {5, INSIDE, {5, -5}, 0, 4, {6, 1, 1, 1}, {9, 0, 0, 0, 9, 0, 0, 0, 9, 1, 1, 7, 7, 1, 1}},
+    {5, INSIDE, {6, -5}, 0, 3, {6, 1, 1, 1}, {9, 0, 0, 0, 9, 0, 0, 0, 9, 1, 1, 7, 7, 1, 1}},
+    /* The first raise brings the sum to L, and past it. */
+    {5, INSIDE, {0, -H}, 0, 4, {H + 1, 1, 1, 1}, {H + 4, 0, 0, 0, H + 4, 0, 0, 0, H + 4, 1, 1, H + 2, H + 2, 1, 1}},
+    {5,
+     INSIDE,
+     {0, -H - 1},
+     13,
+     0,
+     {0, -H - 1},
+     {-H - 1, 0, 0, 0, -H - 1, 0, 0, 0, -H - 1, 0, -H - 1, 0, 0, -H - 1, 0}},
+};
+enum { REPAIRED_COUNT = sizeof REPAIRED / sizeof *REPAIRED };
 
 /* The examples of rows 3 to 8, and of 25 the torus of row 8 on the vertices 0 to 6 of n = 9. Of 7 and 25 the vertex is
  * due too: 3, the lower one of the tips, and 7, the lower one of those in no triangle. */
@@ -74,7 +127,8 @@ static inline void stack_coordinates(size_t n, const int64_t *weights, int64_t *
 
 /* What repair makes of weights that are all 0 on the stack, n being 4 or more; the number of raises. All areas are 0
  * and each raise is by 1: the left and the right triangle at 3, after which the right ones below stand upright with
- * weight 0; each left one in turn; the last. */
+ * weight 0; each left one in turn; the last. Where the first weight is -W instead, N is -W, and inner triangle 1 is
+ * upright; its own raise, by 1 + W, and 1 - N both bring the weight to 1, and then all is the same. */
 static inline uint64_t stack_raised(size_t n, int64_t *weights) {
     for (size_t t = 0; t < 2 * n - 5; t++)
         weights[t] = t % 2 == 0 || t == 1;

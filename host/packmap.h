@@ -151,7 +151,7 @@ uint64_t packmap_mesh_check(size_t n, size_t outer, const uint16_t *triangles, s
 uint64_t packmap_labels(size_t n, size_t outer, const uint16_t *triangles, size_t triangles_len, uint8_t *labels,
                         size_t labels_len, int64_t *scratch, size_t scratch_len, uint64_t *carried);
 
-/* Writes the coordinates of weights: 1, 2, 21, 3 to 6, 7 or 25, 8, 9. */
+/* Writes the coordinates of weights, whatever their total: 1, 2, 21, 3 to 6, 7 or 25, 8, 9. */
 uint64_t packmap_forward(size_t n, size_t outer, const uint16_t *triangles, size_t triangles_len,
                          const int64_t *weights, size_t weights_len, int64_t *coordinates, size_t coordinates_len,
                          int64_t *scratch, size_t scratch_len, uint64_t *carried);
@@ -161,9 +161,10 @@ uint64_t packmap_backward(size_t n, size_t outer, const uint16_t *triangles, siz
                           const int64_t *coordinates, size_t coordinates_len, int64_t *weights, size_t weights_len,
                           int64_t *scratch, size_t scratch_len, uint64_t *carried);
 
-/* Raises weights until no inner triangle is flat or turned, and writes their coordinates: 1, 2, 21, 3 to 6, 7 or 25, 8,
- * 9, 13. Its raises are counted in *carried; 13 leaves the weights as after the last full raise, and their coordinates
- * written. */
+/* Raises weights until N, their total, is 1 or more and no inner triangle is flat or turned, and writes their
+ * coordinates: 1, 2, 21, 3 to 6, 7 or 25, 8, 9, 13. Where N is below 1, the first inner triangle is raised first, by
+ * the larger of its own raise and 1 - N. No triangle is raised twice. All raises are counted in *carried; 13 leaves the
+ * weights as after the last full raise (with none made, as lent), and their coordinates written. */
 uint64_t packmap_repair(size_t n, size_t outer, const uint16_t *triangles, size_t triangles_len, int64_t *weights,
                         size_t weights_len, int64_t *coordinates, size_t coordinates_len, int64_t *scratch,
                         size_t scratch_len, uint64_t *carried);

@@ -1,6 +1,7 @@
 /* Every call on lent slices, by the example of a shell of 1,000 vertices: two bad scans of it are refused, and it is
- * checked, labelled, mapped from weights to coordinates and back; it is opened at another triangle, by its number; then
- * a drawing of it that is bent in places is snapped to whole numbers and repaired.
+ * checked, labelled, mapped from weights to coordinates and back; it is opened at another triangle, by its number; a
+ * drawing of it that is rotated by half a turn is repaired; then one that is bent in places is snapped to whole numbers
+ * and repaired.
  *
  *     cc -IFOLDER/include host/shell.c -LFOLDER/lib -lpackmap && ./a.out
  *
@@ -168,6 +169,17 @@ int main(void) {
     number = packmap_mesh_check(N, TRIANGLE_COUNT, triangles, ITEMS(triangles), scratch, ITEMS(scratch), &carried);
     holds("there is no triangle behind the last", number == PACKMAP_REFUSED_OUTER_NUMBER);
     make_shell();
+
+    /* weights of -1 draw it rotated by half a turn: their total, b0 of v0, is below 1; repair brings it to 1 or more */
+    for (size_t t = 0; t < ITEMS(weights); t++)
+        weights[t] = -1;
+    done("forward", packmap_forward(N, FIRST, triangles, ITEMS(triangles), weights, ITEMS(weights), coordinates,
+                                    ITEMS(coordinates), scratch, ITEMS(scratch), &carried));
+    holds("weights of -1: no triangle flat or turned", flat_or_turned(FIRST, coordinates) == 0 && coordinates[0] < 1);
+    done("repair", packmap_repair(N, FIRST, triangles, ITEMS(triangles), weights, ITEMS(weights), coordinates,
+                                  ITEMS(coordinates), scratch, ITEMS(scratch), &carried));
+    holds("weights of -1, repaired: their total is 1 or more",
+          flat_or_turned(FIRST, coordinates) == 0 && coordinates[0] >= 1);
 
     /* a drawing in doubles becomes coordinates, these give weights, and the weights are repaired */
     draw_shell();

@@ -20,9 +20,9 @@ the listing has to be one of that rim, as the calls on a mesh give it.
 
 Raised triangles are those whose weight in the job differs from the weight that
 the listing's coordinates stand for, by the backward map of document 01. All of
-that is exact; only places on the sheet are rounded. A place is by shares of N,
-so a map with N below 0 stands upright too. Input that is malformed or does not
-fit together is told in one line, with exit 1. Python's standard library alone.
+that is exact; only places on the sheet are rounded. Input that is malformed or
+does not fit together is told in one line, with exit 1; so is N below 1, which no
+listing has. Python's standard library alone.
 """
 
 import argparse
@@ -113,8 +113,8 @@ def read_listing(path, n):
     reader.end()
     if any(abs(x) > LIMIT for place in b for x in place):
         raise Malformed(f"{path}: a coordinate is beyond -{LIMIT}..{LIMIT}")
-    if total == 0:
-        raise Malformed(f"{path}: N = 0, there is nothing to draw")
+    if total < 1:
+        raise Malformed(f"{path}: N = {total}, but a listing has N of 1 or more")
     return total, raises, b
 
 

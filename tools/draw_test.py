@@ -82,7 +82,7 @@ class Drawing(unittest.TestCase):
 
     def test_random_jobs(self):
         for n in 3, 4, 5, 9, 64, 256:
-            for kind in "unit", "zero", "signed", "spike", "negative", "wide":
+            for kind in "unit", "zero", "signed", "spike", "negative", "balanced", "wide":
                 with self.subTest(n=n, kind=kind):
                     job = second("sphere", n, n, kind)
                     listing = second("job", text=job)
@@ -225,7 +225,8 @@ class Drawing(unittest.TestCase):
             (REPAIRED.replace("3\t5\t1", "9000000000\t0\t-8999999991"), "beyond"),
             (REPAIRED.replace("\t9\t1\n", "\t9\t2\n"), "2 raises told, but 1"),
             (REPAIRED.replace("3\t5\t1", "5\t3\t1"), "below the one in"),
-            (REPAIRED.replace("9", "0").replace("3\t5\t1", "1\t-1\t0"), "nothing to draw"),
+            (REPAIRED.replace("9", "0").replace("3\t5\t1", "1\t-1\t0"), "N = 0, but"),
+            (REPAIRED.replace("9", "-9").replace("3\t5\t1", "-3\t-5\t-1"), "N = -9, but"),
             (REPAIRED + "v\t4\t9\t0\t0\n", "one too many"),
         ]:
             with self.subTest(word=word):

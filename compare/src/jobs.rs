@@ -1,10 +1,11 @@
 //! The call on a text: random jobs of every size, texts damaged so that a known
 //! row refuses them, and texts with a few bytes changed, into listing buffers of
-//! the right length, shorter and longer ones.
+//! the right length, shorter and longer ones; and the repairs worked out by hand
+//! as jobs.
 
 use crate::meshes::stale_bytes;
 use crate::tally::{told, Tally};
-use second::shells::{EXAMPLE, LISTING};
+use second::shells::{repairs, EXAMPLE, LISTING};
 use second::spheres::{self, Rng};
 use second::text::{self, Job, MOST_BYTES};
 use second::{damage, Answer, Extra, Refusal, Work};
@@ -39,6 +40,7 @@ fn random(rng: &mut Rng) -> Vec<u8> {
     let triangles = spheres::sphere(rng, n);
     let weights = match rng.below(16) {
         0 => damage::stuck(rng, 2 * n - 5),
+        1 | 2 => spheres::weights(rng, "balanced", 2 * n - 5).expect("a kind"),
         _ => spheres::any_weights(rng, 2 * n - 5),
     };
     Job::write(n, &triangles, &weights)
@@ -68,6 +70,16 @@ fn known(tally: &mut Tally, text: &[u8], wanted: Answer<&[u8]>) {
     });
 }
 
+/// The repairs worked out by hand, as jobs.
+fn by_hand(tally: &mut Tally) {
+    for repair in repairs() {
+        let text = Job::write(repair.n, repair.triangles, &repair.weights);
+        let listing = repair.listing();
+        let wanted = listing.as_ref().map(|text| text.as_bytes());
+        known(tally, &text, wanted.map_err(|&refusal| refusal));
+    }
+}
+
 /// A text that is refused with `number`.
 fn damaged(tally: &mut Tally, work: &mut Work, rng: &mut Rng, number: u8) {
     let bad = damage::text(rng, number);
@@ -84,6 +96,7 @@ pub fn run(count: usize, seed: u64) -> Tally {
     let mut work = Work::default();
     let mut tally = Tally::new("job", &[0, 1, 3, 4, 5, 6, 7, 25, 8, 9, 13, 17, 18, 19]);
     known(&mut tally, EXAMPLE.as_bytes(), Ok(LISTING.as_bytes()));
+    by_hand(&mut tally);
     for round in 0..count {
         let mut text = random(&mut rng);
         rooms(&mut tally, &mut work, &mut rng, &text);

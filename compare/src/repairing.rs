@@ -1,12 +1,14 @@
 //! Repair on random spheres, with outer numbers of every kind and weights of
-//! every kind: zero, negative, near the limit, refused by 9, and stopped by 13;
-//! and P6 to P8 with row 13's example, with the paper's own numbers.
+//! every kind: zero, negative, with a total of 1 or less, near the limit, refused
+//! by 9, and stopped by 13, at the first raise too; and the repairs worked out by
+//! hand, P6 to P8 and row 13's example among them, with the outer triangle at
+//! every place.
 
 use crate::meshes::{outer_number, stale, stale_scratch, vertices};
 use crate::tally::{told, Tally};
-use second::shells::TETRA;
-use second::spheres::{self, Rng};
-use second::{damage, repair, Answer, Extra, Refusal, Work};
+use second::shells::repairs;
+use second::spheres::{self, moved, Rng};
+use second::{damage, repair, Answer, Work};
 
 /// The proved call.
 fn raised(
@@ -33,35 +35,35 @@ fn one(tally: &mut Tally, work: &mut Work, n: usize, outer: usize, mesh: &[u16],
     });
 }
 
-/// The tetra: weights in, the answer and the weights out.
-fn paper(tally: &mut Tally, weights: [i64; 3], wanted: Answer<usize>, left: [i64; 3]) {
-    let mut ours = weights;
-    let mut there = stale(12);
-    let answer = raised(4, 0, &TETRA, &mut ours, &mut there, &mut stale_scratch(4));
-    let total: i64 = left.iter().sum();
-    let places = [
-        total, 0, 0, 0, total, 0, 0, 0, total, left[1], left[0], left[2],
-    ];
-    tally.count(
-        answer,
-        answer == wanted && ours == left && there == places,
-        || format!("{weights:?}: {answer:?}, {ours:?}, {there:?}"),
-    );
+/// The repairs worked out by hand.
+fn by_hand(tally: &mut Tally) {
+    for known in repairs() {
+        let n = known.n;
+        for outer in 0..2 * n - 4 {
+            let mesh = moved(known.triangles, 0, outer);
+            let (mut ours, mut there) = (known.weights.clone(), stale(3 * n));
+            let answer = raised(
+                n,
+                outer,
+                &mesh,
+                &mut ours,
+                &mut there,
+                &mut stale_scratch(n),
+            );
+            let left = ours == known.left && there == known.coordinates;
+            tally.count(answer, answer == known.answer && left, || {
+                let weights = &known.weights;
+                format!("{mesh:?}, outer {outer}, {weights:?}: {answer:?}, {ours:?}, {there:?}")
+            });
+        }
+    }
 }
 
 pub fn run(count: usize, seed: u64) -> Tally {
     let mut rng = Rng(seed);
     let mut work = Work::default();
     let mut tally = Tally::new("repair", &[0, 1, 2, 21, 3, 4, 5, 6, 7, 25, 8, 9, 13]);
-    paper(&mut tally, [5, 3, -1], Ok(1), [5, 3, 1]);
-    paper(&mut tally, [0, 0, 0], Ok(3), [1, 1, 1]);
-    paper(&mut tally, [-1, -1, -1], Ok(0), [-1, -1, -1]);
-    let stopped = [1, -1_073_741_821, 1];
-    let refused = Refusal {
-        number: 13,
-        extra: Extra::Count(0),
-    };
-    paper(&mut tally, stopped, Err(refused), stopped);
+    by_hand(&mut tally);
     one(&mut tally, &mut work, 2, usize::MAX, &[], &[]);
     for _ in 0..count {
         let n = vertices(&mut rng).min(400);
@@ -70,6 +72,7 @@ pub fn run(count: usize, seed: u64) -> Tally {
         let weights = match rng.below(10) {
             0 => damage::heavy(&mut rng, len),
             1 => damage::stuck(&mut rng, len),
+            2 | 3 => spheres::weights(&mut rng, "balanced", len).expect("a kind"),
             _ => spheres::any_weights(&mut rng, len),
         };
         let outer = outer_number(&mut rng, n);

@@ -87,8 +87,8 @@ pub fn labels(
 }
 
 /// Writes the coordinates b0, b1, b2 of each vertex that the weights give. They sum to N, the sum
-/// of the weights; v0 is at (N, 0, 0), v1 at (0, N, 0) and v2 at (0, 0, N). With all weights 1 or
-/// more, no inner triangle is flat or turned.
+/// of the weights, which may be any; v0 is at (N, 0, 0), v1 at (0, N, 0) and v2 at (0, 0, N). With
+/// all weights 1 or more, no inner triangle is flat or turned.
 ///
 /// # Errors
 /// Those of [`check`], then [`Weights`](Refusal::Weights).
@@ -152,9 +152,10 @@ pub fn backward(
     })
 }
 
-/// Raises weights until no inner triangle is flat or turned, writes the coordinates of the new
-/// weights, and returns the number of raises. A raise adds to the weight of the lowest-numbered
-/// triangle that is flat or turned.
+/// Raises weights until N, their sum, is 1 or more and no inner triangle is flat or turned, writes
+/// the coordinates of the new weights, and returns the number of raises. A raise adds to the weight
+/// of the lowest-numbered triangle that is flat or turned. But where N is below 1, the first inner
+/// triangle is raised first, by the larger of its own raise and 1 - N. No triangle is raised twice.
 ///
 /// # Errors
 /// Those of [`check`], then [`Weights`](Refusal::Weights),

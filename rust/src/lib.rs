@@ -39,6 +39,12 @@
 //! assert_eq!((raises, weights), (1, [5, 3, 1]));
 //! assert_eq!(coordinates, [9, 0, 0, 0, 9, 0, 0, 0, 9, 3, 5, 1]);
 //!
+//! // With all weights -1 no triangle is turned, but the drawing is, by half a turn: N, the sum of
+//! // the weights, is -3. Repair brings it to 1 or more.
+//! let mut weights = [-1, -1, -1];
+//! let raises = packmap::repair(n, outer, &triangles, &mut weights, &mut coordinates, &mut scratch)?;
+//! assert_eq!((raises, weights), (3, [3, 2, 1]));
+//!
 //! // The same tetrahedron opened at its last triangle: v0 = 0, v2 = 1, v1 = 3.
 //! packmap::forward(n, 3, &triangles, &[5, 3, 2], &mut coordinates, &mut scratch)?;
 //! assert_eq!(coordinates, [10, 0, 0, 0, 0, 10, 2, 5, 3, 0, 10, 0]);

@@ -33,7 +33,9 @@ fn maps_there_and_back() {
 
 /// What repair makes of weights that are all 0. All areas are 0 and each raise is by 1: the first
 /// two triangles, after which the right ones are no longer flat; then each left one in turn, and
-/// the last. These are n - 1 raises, n being 4 or more.
+/// the last. These are n - 1 raises, n being 4 or more. It makes the same of weights of which the
+/// first is -W and the others are 0: N is -W, and the first triangle, which is not flat then, is
+/// raised by 1 + W, which is both its own raise and 1 - N.
 fn zero_raised(n: usize) -> Vec<i64> {
     let raised = |t: usize| i64::from(t % 2 == 0 || t == 1);
     (0..2 * n - 5).map(raised).collect()
@@ -44,8 +46,13 @@ fn repair_of_zero_weights() {
     for (n, outer, triangles) in stacks([4, 1000, 4096]) {
         let raised = zero_raised(n);
         let coordinates = stack_coordinates(n, &raised);
-        let answer = repair(n, outer, &triangles, &vec![0; 2 * n - 5]);
-        assert_eq!(answer, (Ok(n as u64 - 1), raised, coordinates));
+        for first in [0, -1, -7, -L] {
+            let mut weights = vec![0; 2 * n - 5];
+            weights[0] = first;
+            let answer = repair(n, outer, &triangles, &weights);
+            let wanted = (Ok(n as u64 - 1), raised.clone(), coordinates.clone());
+            assert_eq!(answer, wanted);
+        }
     }
 }
 
@@ -65,8 +72,8 @@ fn job_of_zero_weights() {
     }
 }
 
-/// No triangle is left flat or turned, the coordinates are those of the weights, a weight is raised
-/// at most once, and the count is that of the weights that were.
+/// N is 1 or more, no triangle is left flat or turned, the coordinates are those of the weights, a
+/// weight is raised at most once, and the count is that of the weights that were.
 #[test]
 fn repair_of_signed_weights() {
     let n = 1000;
@@ -75,6 +82,7 @@ fn repair_of_signed_weights() {
         let weights = signed(2 * n - 5, seed);
         let (answer, raised, coordinates) = repair(n, 0, &triangles, &weights);
         assert_eq!(coordinates, stack_coordinates(n, &raised));
+        assert!(raised.iter().sum::<i64>() >= 1);
         let mut inner = triangles[3..].chunks_exact(3);
         assert!(inner.all(|t| area(&coordinates, t) > 0));
         let pairs = || weights.iter().zip(&raised);

@@ -4,9 +4,12 @@
 mod common;
 
 use common::*;
+use packmap::Refusal;
 use second::naive::{self, Verdict};
-use second::shells::{EXAMPLE, FIVE, LISTING, PAIR, TETRA};
+use second::shells::{repairs, EXAMPLE, FIVE, LISTING, PAIR, TETRA};
 use second::spheres::moved;
+use second::text::Job;
+use second::Extra;
 
 #[test]
 fn p1_to_p3_labels() {
@@ -70,13 +73,40 @@ fn p7_three_raises() {
     }
 }
 
+/// No triangle is flat or turned before, but N is -3.
 #[test]
-fn p8_no_raise() {
+fn p8_three_raises() {
+    let before = forward(4, 0, &TETRA, &[-1; 3]).unwrap();
+    assert_eq!(areas(&before), [3; 3]);
     for (outer, tetra) in tetras() {
-        let after = vec![-3, 0, 0, 0, -3, 0, 0, 0, -3, -1, -1, -1];
-        assert_eq!(areas(&after), [3; 3]);
+        let after = vec![6, 0, 0, 0, 6, 0, 0, 0, 6, 2, 3, 1];
         let repaired = repair(4, outer, &tetra, &[-1; 3]);
-        assert_eq!(repaired, (Ok(0), vec![-1; 3], after));
+        assert_eq!(repaired, (Ok(3), vec![3, 2, 1], after));
+    }
+}
+
+/// Repairs worked out by hand, most with N below 1, and their jobs.
+#[test]
+fn repairs_by_hand() {
+    for known in repairs() {
+        let answer = known.answer.map(|raises| raises as u64);
+        let answer = answer.map_err(|refusal| match refusal.extra {
+            Extra::Count(raises) => Refusal::Raise {
+                raises: Some(raises as u64),
+            },
+            _ => panic!("these are refused with 13 alone"),
+        });
+        let wanted = (answer, known.left.clone(), known.coordinates.clone());
+        for outer in 0..2 * known.n - 4 {
+            let triangles = moved(known.triangles, 0, outer);
+            let repaired = repair(known.n, outer, &triangles, &known.weights);
+            assert_eq!(repaired, wanted);
+        }
+        let text = Job::write(known.n, known.triangles, &known.weights);
+        let listing = known.listing().map(String::into_bytes);
+        let untold = Refusal::Raise { raises: None };
+        let wanted = listing.map_err(|_| untold);
+        assert_eq!(job(&text, packmap::JOB_BYTES), wanted);
     }
 }
 

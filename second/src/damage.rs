@@ -232,9 +232,16 @@ pub fn heavy(rng: &mut Rng, len: usize) -> Vec<i64> {
 /// Weights, more than one, whose repair 13 stops before any raise. All weight
 /// on one triangle puts every vertex on an outer one, so all other triangles
 /// are flat; they weigh nothing, and the least raise of one passes the limit.
+/// Or that weight is -S, S being more than half the limit: then N is -S, and
+/// the first raise, of another triangle and by 1 + S or more, passes the limit.
 pub fn stuck(rng: &mut Rng, len: usize) -> Vec<i64> {
     let mut w = vec![0; len];
-    w[rng.below(len)] = LIMIT;
+    let t = rng.below(len);
+    w[t] = if t > 0 && rng.chance(2) {
+        -rng.within(LIMIT / 2 + 1, LIMIT)
+    } else {
+        LIMIT
+    };
     w
 }
 

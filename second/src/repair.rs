@@ -5,12 +5,16 @@
 //! row, b0 likewise for colour 1; a raise adds to a few rows, and looks only at
 //! triangles on its three walks. A fully extended triangle stays so and is not
 //! looked at again; one that the search for the lowest has not come to yet is
-//! left for that search.
+//! left for that search. Where N is below 1, inner triangle 1 is raised before
+//! any is looked at.
 
 use crate::maps::{Side, Walks};
 use crate::mesh::{next, prev, slot, Mesh, OUTER};
 use crate::minset::MinSet;
 use crate::{exact, weigh, Answer, Extra, Refusal, Sizes, Work, LIMIT};
+
+/// Place of inner triangle 1.
+const FIRST: usize = OUTER + 1;
 
 /// One of two trees, colour 0 into v0 or colour 1 into v1, as a row of its
 /// vertices in which each is followed by all that pass through it.
@@ -186,6 +190,16 @@ impl Raises {
         self.bad.first()
     }
 
+    /// The triangle to raise next, and by how much. N is below 1 before the
+    /// first raise at most, which brings it to 1 or more.
+    fn due(&mut self) -> Option<(usize, i64)> {
+        if self.total < 1 {
+            return Some((FIRST, self.step(FIRST).max(1 - self.total)));
+        }
+        let t = self.lowest()?;
+        Some((t, self.step(t)))
+    }
+
     /// Adds step to the coordinates that t's weight counts in, and looks at
     /// the watched triangles on its walks.
     fn raise(&mut self, v0: usize, t: usize, step: i64) {
@@ -269,11 +283,10 @@ pub fn repair(
     let [v0, ..] = mesh.rim();
     let mut count = 0;
     let answer = loop {
-        let Some(t) = raises.lowest() else {
+        let Some((t, step)) = raises.due() else {
             break Ok(count);
         };
         let w = weights[slot(t)];
-        let step = raises.step(t);
         let heavier = heft - w.abs() + (w + step).abs();
         if heavier > LIMIT {
             break Err(Refusal {

@@ -1,7 +1,8 @@
-//! The sample meshes and texts of document 01, and one for 25. A mesh is the flat
-//! list of its triples; on n vertices it has 3(2n - 4) numbers.
+//! The sample meshes and texts of document 01, one for 25, and repairs worked out
+//! by hand. A mesh is the flat list of its triples; on n vertices it has 3(2n - 4)
+//! numbers.
 
-use crate::Refusal;
+use crate::{Answer, Extra, Refusal, LIMIT};
 
 /// P1: two triangles on the same three vertices, n = 3.
 pub const PAIR: [u16; 6] = [0, 2, 1, 0, 1, 2];
@@ -57,3 +58,131 @@ pub const EXAMPLE: &str =
 /// What packmap prints for the example.
 pub const LISTING: &str =
     "pack-map\t4\t9\t1\nv\t0\t9\t0\t0\nv\t1\t0\t9\t0\nv\t2\t0\t0\t9\nv\t3\t3\t5\t1\n";
+
+/// A repair worked out by hand: its answer, the weights that it leaves and their
+/// coordinates. The outer triangle is in front.
+pub struct Repair {
+    pub n: usize,
+    pub triangles: &'static [u16],
+    pub weights: Vec<i64>,
+    pub answer: Answer<usize>,
+    pub left: Vec<i64>,
+    pub coordinates: Vec<i64>,
+}
+
+impl Repair {
+    /// The listing of its job, or 13 as a text has it, without the count.
+    pub fn listing(&self) -> Answer<String> {
+        let raises = self
+            .answer
+            .map_err(|refusal| Refusal::plain(refusal.number))?;
+        let (n, total) = (self.n, self.left.iter().sum::<i64>());
+        let mut listing = format!("pack-map\t{n}\t{total}\t{raises}\n");
+        for (v, b) in self.coordinates.chunks(3).enumerate() {
+            listing += &format!("v\t{v}\t{}\t{}\t{}\n", b[0], b[1], b[2]);
+        }
+        Ok(listing)
+    }
+}
+
+/// Row 13 after so many raises.
+pub const fn stopped(count: usize) -> Answer<usize> {
+    Err(Refusal {
+        number: 13,
+        extra: Extra::Count(count),
+    })
+}
+
+/// Weights, the answer, and the weights left.
+type Case<const K: usize> = ([i64; K], Answer<usize>, [i64; K]);
+
+/// Half the limit: twice that and 1 is the limit.
+const HALF: i64 = LIMIT / 2;
+
+/// P1. The raise of the only triangle is by 1 - N.
+const ON_PAIR: [Case<1>; 4] = [
+    ([1], Ok(0), [1]),
+    ([0], Ok(1), [1]),
+    ([-7], Ok(1), [1]),
+    ([-LIMIT], Ok(1), [1]),
+];
+
+/// The tetra, on which vertex 3 is at (w2, w1, w3). The area of a triangle is its
+/// weight times N, and its raise is by 1 plus the larger of these: its weight
+/// taken from 0; the largest of 0 and the two other weights, less N.
+const ON_TETRA: [Case<3>; 8] = [
+    // P6
+    ([5, 3, -1], Ok(1), [5, 3, 1]),
+    // P7: N is 0, and the first raise is by 1 either way.
+    ([0; 3], Ok(3), [1; 3]),
+    // P8 since C-21: no area is 0 or less, but N is -3. By 4 either way, then by 3 and 2.
+    ([-1; 3], Ok(3), [3, 2, 1]),
+    // The same from its first raise on: N is 1.
+    ([3, -1, -1], Ok(2), [3, 2, 1]),
+    // Of these areas only the second is below 0. N is -2; the first triangle's own raise is by
+    // 1 + 5 + 2, past 1 - N. Then the third one's is by 1 + 6.
+    ([-1, 5, -6], Ok(2), [7, 5, 1]),
+    // Row 13's example: the first raise, by 2 - N, would pass the limit.
+    ([1, 2 - LIMIT, 1], stopped(0), [1, 2 - LIMIT, 1]),
+    // No area is 0 or less; the first raise, by 1 - N, would pass the limit.
+    ([-1, -1, 2 - LIMIT], stopped(0), [-1, -1, 2 - LIMIT]),
+    // The first raise is by 1 - N and brings the sum to the limit; the second triangle is flat.
+    ([-1, 0, -HALF], stopped(1), [HALF + 1, 0, -HALF]),
+];
+
+/// P3 with (1, 3, 4) as inner triangle 1, which has no side on the rim.
+const INSIDE: [u16; 18] = [0, 2, 1, 1, 3, 4, 0, 3, 2, 3, 1, 2, 0, 1, 4, 3, 0, 4];
+
+/// With the weights u, x, y, z, s vertex 3 is at (y, x, u + z + s) and vertex 4 at
+/// (y + u, x + s, z). Here x is -M, and of the others only u is not 0. The first
+/// triangle has area u times u. Its own raise is by 1 - u, and 1 - N is M more: u
+/// becomes M + 1 and N 1. Then (0, 3, 2) is turned and has m = M, from its corners
+/// at 3 and at 2: x becomes 1. Now (3, 1, 2) and (0, 1, 4) are flat with m = 0,
+/// and (3, 0, 4) is upright: its area is u.
+const ON_INSIDE: [Case<5>; 5] = [
+    ([-3, -5, 0, 0, 0], Ok(4), [6, 1, 1, 1, 0]),
+    // N is 0.
+    ([5, -5, 0, 0, 0], Ok(4), [6, 1, 1, 1, 0]),
+    // N is 1.
+    ([6, -5, 0, 0, 0], Ok(3), [6, 1, 1, 1, 0]),
+    // The first raise brings the sum to the limit, and past it.
+    ([0, -HALF, 0, 0, 0], Ok(4), [HALF + 1, 1, 1, 1, 0]),
+    ([0, -HALF - 1, 0, 0, 0], stopped(0), [0, -HALF - 1, 0, 0, 0]),
+];
+
+/// The cases of a mesh; `drawn` has the coordinates of its inner vertices by the
+/// weights.
+fn on<const K: usize>(
+    n: usize,
+    triangles: &'static [u16],
+    cases: &[Case<K>],
+    drawn: fn(&[i64; K]) -> Vec<i64>,
+) -> Vec<Repair> {
+    let repair = |(weights, answer, left): &Case<K>| {
+        let total = left.iter().sum();
+        let corners = vec![total, 0, 0, 0, total, 0, 0, 0, total];
+        Repair {
+            n,
+            triangles,
+            weights: weights.to_vec(),
+            answer: *answer,
+            left: left.to_vec(),
+            coordinates: [corners, drawn(left)].concat(),
+        }
+    };
+    cases.iter().map(repair).collect()
+}
+
+/// P6 to P8, row 13's example, and repairs with N below 1 or just 1.
+pub fn repairs() -> Vec<Repair> {
+    [
+        on(3, &PAIR, &ON_PAIR, |_| vec![]),
+        on(4, &TETRA, &ON_TETRA, |w| vec![w[1], w[0], w[2]]),
+        on(5, &INSIDE, &ON_INSIDE, |&[u, x, y, z, s]| {
+            vec![y, x, u + z + s, y + u, x + s, z]
+        }),
+    ]
+    .into_iter()
+    .flatten()
+    .collect()
+}

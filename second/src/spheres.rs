@@ -242,8 +242,8 @@ pub fn place(rng: &mut Rng, n: usize) -> usize {
 }
 
 /// Kinds of weight lists that row 9 lets through.
-pub const KINDS: [&str; 9] = [
-    "unit", "zero", "signed", "positive", "negative", "spike", "wide", "heavy", "full",
+pub const KINDS: [&str; 10] = [
+    "unit", "zero", "signed", "positive", "negative", "balanced", "spike", "wide", "heavy", "full",
 ];
 
 /// A weight list of a kind; `None` for a name that is no kind.
@@ -257,6 +257,13 @@ pub fn weights(rng: &mut Rng, kind: &str, len: usize) -> Option<Vec<i64>> {
         "signed" => list(-9, 9),
         "positive" => list(1, each.min(1000)),
         "negative" => list(-each.min(1000), -1),
+        // A total of -1, 0 or 1.
+        "balanced" => {
+            let mut w = list(-9, 9);
+            let total: i64 = w.iter().sum();
+            w[rng.below(len)] += rng.within(-1, 1) - total;
+            w
+        }
         "spike" => {
             let mut w = list(1, 3);
             for _ in 0..1 + len / 40 {

@@ -138,15 +138,16 @@ P7 =
       scratch = clearedScratch 4;
     }
 
+-- three raises since C-21, none before: N is below 1, so triangle 1 is raised first, though no triangle is flat or turned
 abbrev pub P8 : Type 0
 P8 =
     (total (replicate 3 (minus 1)) ≡ minus 3)
     × (tetraAreas (replicate 3 (minus 1)) ≡ replicate 3 (pos 3))
     × (repairCall 4 0 tetra (replicate 3 (minus 1)) (lent 12) (lentScratch 4)
     ≡ record {
-      answer = done 0;
-      weights = replicate 3 (minus 1);
-      coordinates = tetraAt (minus 3) (minus 1) (minus 1) (minus 1);
+      answer = done 3;
+      weights = pos 3 ∷ pos 2 ∷ pos 1 ∷ [];
+      coordinates = tetraAt (pos 6) (pos 3) (pos 2) (pos 1);
       scratch = clearedScratch 4;
     })
 

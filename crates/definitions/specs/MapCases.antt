@@ -1,4 +1,4 @@
--- Cases of our own for "Forward" and "Backward", computed of the definitions: paths, walks, coordinates and weights of two shells of `LabelCases`:
+-- Cases of our own for "Forward" and "Backward", computed of the definitions: paths, walks, coordinates and weights, most of two shells of `LabelCases`:
 -- `mixed` has v0 = 4, v1 = 3 and v2 = 1, and `chain` has v0 = 5, v1 = 1 and v2 = 3. What each expects is worked out from the paper by hand; the comments
 -- say how. Assumes nothing.
 use Prim.Native.Nat.{ℕ}
@@ -8,7 +8,7 @@ use lib.IntN.{ℤ, pos}
 use Rattle.definitions.specs.Answers.{done}
 use Rattle.definitions.specs.Forward.{path, walk}
 use Rattle.definitions.specs.Refusals.{forwardCall, backwardCall}
-use Rattle.definitions.specs.CheckedShells.{Every, all-held, _and_, lent, lentScratch, clearedScratch, minus}
+use Rattle.definitions.specs.CheckedShells.{Every, all-held, _and_, tetra, lent, lentScratch, clearedScratch, minus, tetraAt}
 use Rattle.definitions.specs.LabelCases.{chain, mixed, mixedLabels}
 
 -- ---- paths and walks, as darts
@@ -83,10 +83,21 @@ Signed =
       scratch = clearedScratch 6;
     }
 
-pub map-cases : Every (Paths0 ∷ Paths1 ∷ Walks ∷ PowersOf2 ∷ LongPath ∷ Signed ∷ [])
+-- N = 0, where v0, v1 and v2 are all at (0, 0, 0), and N = -3. C-21 leaves forward and backward as they are: the tetra's weights a, b, c put vertex 3 at
+-- (b, a, c), and come back.
+abbrev BothWays : ℤ → ℤ → ℤ → ℤ → Type 0
+BothWays N a b c =
+    (forwardCall 4 0 tetra (a ∷ b ∷ c ∷ []) (lent 12) (lentScratch 4) ≡ record { answer = done tt; coordinates = tetraAt N a b c; scratch = clearedScratch 4 })
+    × (backwardCall 4 0 tetra (tetraAt N a b c) (lent 3) (lentScratch 4)
+    ≡ record { answer = done tt; weights = a ∷ b ∷ c ∷ []; scratch = clearedScratch 4 })
+
+abbrev AnyTotal : Type 0
+AnyTotal = BothWays (pos 0) (pos 2) (minus 3) (pos 1) × BothWays (minus 3) (minus 1) (minus 1) (minus 1)
+
+pub map-cases : Every (Paths0 ∷ Paths1 ∷ Walks ∷ PowersOf2 ∷ LongPath ∷ Signed ∷ AnyTotal ∷ [])
 unfolding path walk forwardCall backwardCall
 map-cases =
-    paths0 and paths1 and walks and powersOf2 and longPath and signed and all-held
+    paths0 and paths1 and walks and powersOf2 and longPath and signed and anyTotal and all-held
   where
     paths0 : Paths0
     paths0 = (refl, refl, refl, refl, refl, refl)
@@ -105,3 +116,6 @@ map-cases =
 
     signed : Signed
     signed = refl
+
+    anyTotal : AnyTotal
+    anyTotal = ((refl, refl), (refl, refl))

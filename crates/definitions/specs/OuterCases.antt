@@ -167,6 +167,18 @@ TetraMaps =
     × TetraMapped 2 (tetraAt2 10 (at (pos 5) (pos 2) (pos 3)))
     × TetraMapped 3 (tetraAt3 10 (at (pos 2) (pos 5) (pos 3)))
 
+-- C-21 at place 2: P8's weights. Triangle 1, the first to be raised, is (0,2,1), the mesh's first. By the tetra's symmetry the m of an inner triangle is the
+-- larger of 0 less its weight, and the largest of 0 and the others' weights, less N: as in P8 the raises are by 4, 3 and 2, and the weights become 3, 2, 1.
+abbrev TetraRepair : Type 0
+TetraRepair =
+    repairCall 4 2 tetra (replicate 3 (minus 1)) (lent 12) (lentScratch 4)
+    ≡ record {
+      answer = done 3;
+      weights = pos 3 ∷ pos 2 ∷ pos 1 ∷ [];
+      coordinates = tetraAt2 6 (at (pos 3) (pos 1) (pos 2));
+      scratch = clearedScratch 4;
+    }
+
 abbrev Backs : ℕ → List ℤ → ℕ → Type 0
 Backs place bs k =
     backwardCall 4 place tetra bs (lent 3) (lentScratch 4) ≡ record { answer = refused (numbered k); weights = lent 3; scratch = clearedScratch 4 }
@@ -224,12 +236,12 @@ FiveRepair =
 
 pub outer-cases :
     Every
-    (InFront ∷ OuterVertices ∷ LastPlace ∷ NoSuchTriangle ∷ OrderOf21 ∷ OtherPlace ∷ PairCalls ∷ TetraLabels ∷ TetraMaps ∷ TetraRows ∷ FiveLabels
-    ∷ FiveMaps ∷ FiveRepair ∷ [])
+    (InFront ∷ OuterVertices ∷ LastPlace ∷ NoSuchTriangle ∷ OrderOf21 ∷ OtherPlace ∷ PairCalls ∷ TetraLabels ∷ TetraMaps ∷ TetraRepair ∷ TetraRows
+    ∷ FiveLabels ∷ FiveMaps ∷ FiveRepair ∷ [])
 unfolding fronted outer row21 checkCall labelsCall forwardCall backwardCall repairCall
 outer-cases =
     in-front and outer-vertices and last-place and no-such-triangle and order-of-21 and other-place and pair-calls and tetra-labels and tetra-maps
-    and tetra-rows and five-labels and five-maps and five-repair and all-held
+    and tetra-repair and tetra-rows and five-labels and five-maps and five-repair and all-held
   where
     in-front : InFront
     in-front = (refl, refl, refl, refl)
@@ -257,6 +269,9 @@ outer-cases =
 
     tetra-maps : TetraMaps
     tetra-maps = ((refl, refl), (refl, refl), (refl, refl))
+
+    tetra-repair : TetraRepair
+    tetra-repair = refl
 
     tetra-rows : TetraRows
     tetra-rows = (refl, refl, refl, refl, refl)

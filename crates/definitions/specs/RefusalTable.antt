@@ -102,8 +102,8 @@ Row11 = Backs (pos 9 ∷ pos 0 ∷ pos 0 ∷ pos 1 ∷ pos 8 ∷ pos 0 ∷ pos 0
 abbrev Row12 : Type 0
 Row12 = Backs (tetraAt (pos 9) (pos 5) (pos 3) (pos 2)) 12
 
--- N = 4 - L is below 0, so the first triangle, of weight 1, has D = N and is turned. m is L - 3, b2 of the inner vertex less that of v2. With 1 + m
--- added to the weight the absolute values would sum to 2L - 2. No raise is made.
+-- N = 4 - L is below 1, so the first triangle is raised first. Its m is L - 3, b2 of the inner vertex less that of v2, and 1 + m is more than 1 - N. With 1 + m
+-- added to its weight the absolute values would sum to 2L - 2. No raise is made.
 abbrev Row13 : Type 0
 Row13 =
     let ws = pos 1 ∷ minus 1_073_741_821 ∷ pos 1 ∷ [] in

@@ -1,4 +1,4 @@
--- Document 01, "Repair": area numbers, the raise, and the loop that raises. Definitions only.
+-- Document 01, "Repair", with C-21: area numbers, the raise, the first raise where N is below 1, and the loop that raises. Definitions only.
 use Prim.Native.Nat.{ℕ, zero, suc, _-_, _*_}
 use mathlib.Core.Bool.{Bool, true, false, not, _&&_, cond}
 use mathlib.Core.List.{List, [], _∷_, _++_}
@@ -7,7 +7,7 @@ use lib.Dec.{ltb}
 use lib.ListN.{set}
 use lib.IntN.{ℤ, pos, _+ℤ_, _-ℤ_, _*ℤ_}
 use lib.Signed.{leZ}
-use Rattle.definitions.specs.Lists.{filter, first, totalAbs}
+use Rattle.definitions.specs.Lists.{filter, first, total, totalAbs}
 use Rattle.definitions.specs.Mesh.{org, inner}
 use Rattle.definitions.specs.Labels.{corner}
 use Rattle.definitions.specs.Forward.{weight, forward}
@@ -48,8 +48,8 @@ module _ (ts ls : List ℕ) (bs : List ℤ) where
   unfolding deficit maxZ
   raise t = pos 1 +ℤ maxZ (deficit t 0 1 2) (maxZ (deficit t 1 0 2) (deficit t 2 0 1))
 
--- How the loop ended: no triangle is bad any more; the next raise would break 9; or its fuel ran out, which never happens on an accepted mesh: no
--- triangle is raised twice, and the fuel is one more than there are inner triangles (crate `theory_demand`, `ends`).
+-- How repair ended: no triangle is bad any more; the next raise would break 9; or the loop's fuel ran out, which never happens on an accepted mesh: no
+-- triangle is raised twice, and fuel and first raise together are one more than there are inner triangles (crate `theory_demand`, `ends`).
 pub data Ending : Type 0 where
   finished stopped outOfFuel : Ending
 
@@ -81,9 +81,24 @@ module _ (n : ℕ) (ts ls : List ℕ) where
             ]
       ]
 
+  -- What triangle 1 is raised by where N, the total of the weights, is below 1: the larger of its own raise and 1 - N.
+  unfoldable pub firstRaise : List ℤ → ℤ
+  unfolding forward raise maxZ total
+  firstRaise ws = maxZ (raise ts ls (forward n ts ls ws) 1) (pos 1 -ℤ total ws)
+
+  -- Where N is below 1 at the start, triangle 1 is raised first, unless that would break 9; then the loop runs.
   unfoldable pub repair : List ℤ → RepairState
-  unfolding repairLoop
-  repair ws = repairLoop (2 * n - 4) ws []
+  unfolding repairLoop firstRaise addTo total totalAbs
+  repair ws =
+      elim (leZ (pos 1) (total ws)) [
+        | true ↦ repairLoop (2 * n - 4) ws []
+        | false ↦
+            let ws′ = addTo ws 1 (firstRaise ws) in
+            elim (ltb limit (totalAbs ws′)) [
+              | true ↦ record { ending = stopped; weights = ws; raises = [] }
+              | false ↦ repairLoop (2 * n - 5) ws′ (1 ∷ [])
+            ]
+      ]
 
 -- the inner triangles whose weights differ between two lists
 unfoldable pub changed : List ℕ → List ℤ → List ℤ → List ℕ

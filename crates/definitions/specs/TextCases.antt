@@ -5,10 +5,11 @@ use Prim.Native.String.{String}
 use mathlib.Core.Path.{_≡_, refl}
 use mathlib.Core.List.{List, [], _∷_, _++_, flatMap}
 use lib.ListN.{replicate}
+use lib.IntN.{pos}
 use Rattle.definitions.specs.Lists.{upto}
 use Rattle.definitions.specs.Answers.{numbered, vertexPinched, vertexStray, stoppedAfter, shareOutside, lineBroken}
-use Rattle.definitions.specs.Job.{bytes, toldWithText, lineOf, hostCall, prints}
-use Rattle.definitions.specs.CheckedShells.{Every, all-held, _and_, stale, two}
+use Rattle.definitions.specs.Job.{bytes, writeLine, toldWithText, lineOf, hostCall, prints}
+use Rattle.definitions.specs.CheckedShells.{Every, all-held, _and_, stale, minus, two}
 use Rattle.definitions.specs.RefusalTable.{tetraLines, exampleText, exampleListing}
 
 -- what packmap prints of a text, and of the tetra's text with these lines after its triangles
@@ -176,13 +177,19 @@ Told =
 
 -- ---- the listing
 
--- The tetra's area numbers are the weights times N, so none is raised here: N = 216, and below 0 N = -133. With the weights a, b, c vertex 3 is at (b, a, c).
--- n = 3 with weight 0: the one triangle is flat, m is 0, and N is 1 after the raise.
+-- With the weights a, b, c the tetra's vertex 3 is at (b, a, c), and its area numbers are the weights times N. For 120, 9, 87, N is 216 and none is raised.
+-- For -10, -120, -3, N is -133. First 1 is raised by 1 - N = 134 (its m is 0 - N), and N is 1. Then 2: m is 124 - N = 123, so -120 becomes 4 and N is 125.
+-- Then 3: m is 0 - c = 3, so -3 becomes 1. n = 3 with weight 0: N is 0, so the one triangle is raised, by 1 - N.
 abbrev Listings : Type 0
 Listings =
     PrintsTetra "w\t120\nw\t9\nw\t87\n" "pack-map\t4\t216\t0\nv\t0\t216\t0\t0\nv\t1\t0\t216\t0\nv\t2\t0\t0\t216\nv\t3\t9\t120\t87\n"
-    × PrintsTetra "w\t-10\nw\t-120\nw\t-3\n" "pack-map\t4\t-133\t0\nv\t0\t-133\t0\t0\nv\t1\t0\t-133\t0\nv\t2\t0\t0\t-133\nv\t3\t-120\t-10\t-3\n"
+    × PrintsTetra "w\t-10\nw\t-120\nw\t-3\n" "pack-map\t4\t129\t3\nv\t0\t129\t0\t0\nv\t1\t0\t129\t0\nv\t2\t0\t0\t129\nv\t3\t4\t124\t1\n"
     × Prints "pack-map\t3\nt\t0\t2\t1\nt\t0\t1\t2\nw\t0\n" "pack-map\t3\t1\t1\nv\t0\t1\t0\t0\nv\t1\t0\t1\t0\nv\t2\t0\t0\t1\n"
+
+-- Since C-21 N is 1 or more in every listing, and no listing here has a number below 0. The definition of a line has them all the same: a minus before the
+-- digits.
+abbrev BelowZero : Type 0
+BelowZero = writeLine (bytes "v") (pos 3 ∷ minus 120 ∷ minus 10 ∷ minus 3 ∷ []) ≡ bytes "v\t3\t-120\t-10\t-3\n"
 
 -- ---- the host service
 
@@ -202,10 +209,12 @@ Hosts =
     × (hostCall (bytes "pack-map\t4\n") (stale 5) ≡ record { number = 196625; listing = stale 5 })
 
 pub text-cases :
-    Every (Heads ∷ Vertices ∷ Triangles ∷ Weights ∷ LineNumbers ∷ LongestText ∷ Order ∷ VertexNotTold ∷ Told ∷ Listings ∷ Hosts ∷ [])
-unfolding prints toldWithText lineOf hostCall flatMap upto
+    Every
+    (Heads ∷ Vertices ∷ Triangles ∷ Weights ∷ LineNumbers ∷ LongestText ∷ Order ∷ VertexNotTold ∷ Told ∷ Listings ∷ BelowZero ∷ Hosts ∷ [])
+unfolding prints writeLine toldWithText lineOf hostCall flatMap upto
 text-cases =
-    heads and vertices and triangles and weights and line-numbers and longest-text and order and vertex-not-told and told and listings and hosts and all-held
+    heads and vertices and triangles and weights and line-numbers and longest-text and order and vertex-not-told and told and listings
+    and below-zero and hosts and all-held
   where
     heads : Heads
     heads = (refl, refl, refl, refl, refl, refl, refl, refl, refl, refl, refl, refl, refl, refl)
@@ -236,6 +245,9 @@ text-cases =
 
     listings : Listings
     listings = (refl, refl, refl)
+
+    below-zero : BelowZero
+    below-zero = refl
 
     hosts : Hosts
     hosts = (refl, refl, refl, refl, refl, refl, refl, refl, refl)

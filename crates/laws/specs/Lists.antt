@@ -14,6 +14,7 @@ use lib.ListN.{length, getD, set, length-append, List·getD-append}
 use lib.Seq.{getD-append-add}
 use lib.IntN.{ℤ, natAbs, _+ℤ_, +ℤ-assoc, +ℤ-idl}
 use borrow.Author.Tests.{eqb-true, eq-eqb}
+use Rattle.laws.specs.Integers.{int, z+}
 use Rattle.definitions.specs.Lists.{range, upto, all, any, filter, iterate, elem, firstOr, first, minimum, init, total, totalAbs}
 
 infix 50 _∈_
@@ -491,6 +492,17 @@ pub total-append : (xs ys : List ℤ) → total (xs ++ ys) ≡ total xs +ℤ tot
 unfolding total
 total-append [] ys = sym (+ℤ-idl (total ys))
 total-append (x ∷ xs) ys = ap (λ (z : ℤ). x +ℤ z) (total-append xs ys) ∙ sym (+ℤ-assoc x (total xs) (total ys))
+
+-- with x at place i instead of what was there
+pub total-set : (xs : List ℤ) (i : ℕ) (x d : ℤ) → i < length xs → total (set xs i x) +ℤ getD xs i d ≡ total xs +ℤ x
+unfolding total
+total-set [] i x d h = absurd (omega arith)
+total-set (y ∷ xs) zero x d h = omega (int, z+ x (total xs), z+ y (total xs), z+ (x +ℤ total xs) y, z+ (y +ℤ total xs) x)
+total-set (y ∷ xs) (suc i) x d h =
+    let e = total-set xs i x d (omega arith) in
+    let s = total (set xs i x) in
+    let g = getD xs i d in
+    omega (int, z+ y s, z+ (y +ℤ s) g, z+ s g, z+ y (total xs), z+ (y +ℤ total xs) x, z+ (total xs) x)
 
 pub totalAbs-append : (xs ys : List ℤ) → totalAbs (xs ++ ys) ≡ totalAbs xs + totalAbs ys
 unfolding totalAbs

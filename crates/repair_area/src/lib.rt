@@ -54,7 +54,7 @@ pub fn bad_at(coordinates: &[i64], p: usize, q: usize, r: usize) -> bool
     int64::at_most(area_of(coordinates, p, q, r), 0)
 }
 
-fn greater(a: i64, b: i64) -> i64
+pub fn greater(a: i64, b: i64) -> i64
     ensures { λ r. ⌜ r ≡ maxZ a b ⌝ }
 {
     if a <= b { b } else { a }

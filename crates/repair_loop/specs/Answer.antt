@@ -1,11 +1,11 @@
 -- What the end of repair's loop says: this paper's answer for each of its cases. Assumes nothing.
 use Prim.Native.Nat.{ℕ}
-use mathlib.Core.Path.{_≡_}
+use mathlib.Core.Path.{_≡_, ap, sym, subst, _∙_}
 use mathlib.Core.List.{List}
 use lib.ListN.{length}
 use lib.IntN.{ℤ}
 use Rattle.definitions.specs.Forward.{forward}
-use Rattle.definitions.specs.Repair.{repair}
+use Rattle.definitions.specs.Repair.{RepairState, repair}
 use Rattle.definitions.specs.Answers.{Answer, done, refused, stoppedAfter}
 use Rattle.definitions.specs.Refusals.{repairAnswer}
 use Rattle.repair_model.specs.Raise.{Drawn}
@@ -22,6 +22,16 @@ pub record Halts (n : ℕ) (ts ls : List ℕ) (ws₀ ws bs : List ℤ) (r : Ende
   pub answer : endToAnswer r ≡ repairAnswer (repair n ts ls ws₀ .ending) (length (repair n ts ls ws₀ .raises))
   pub weights : ws ≡ repair n ts ls ws₀ .weights
   pub drawn : Drawn n ts ls (repair n ts ls ws₀ .weights) bs
+
+-- where the definition's repair ends so, the code's end is its own
+pub halts-by : (n : ℕ) (ts ls : List ℕ) (ws₀ ws bs : List ℤ) (r : Ended) (m : RepairState) → repair n ts ls ws₀ ≡ m →
+    endToAnswer r ≡ repairAnswer (m .ending) (length (m .raises)) → ws ≡ m .weights → Drawn n ts ls (m .weights) bs → Halts n ts ls ws₀ ws bs r
+halts-by n ts ls ws₀ ws bs r m e a w b =
+    record {
+      answer = a ∙ ap (λ (q : RepairState). repairAnswer (q .ending) (length (q .raises))) (sym e);
+      weights = w ∙ ap (λ (q : RepairState). q .weights) (sym e);
+      drawn = subst (λ (q : RepairState). Drawn n ts ls (q .weights) bs) (sym e) b;
+    }
 
 -- the answer, the weights and the coordinates are those of the definition
 pub record Ends (n : ℕ) (ts ls : List ℕ) (ws₀ ws bs : List ℤ) (r : Ended) : Type 0 where

@@ -3,4 +3,5 @@ pub mod OneRaise
 pub mod UpdateOnReady
 pub mod Answer
 pub mod LoopInvariants
+pub mod AllRaises
 pub mod Start

@@ -24,7 +24,7 @@ use Rattle.repair_model.specs.Ready.{Ready}
 use Rattle.repair_words.specs.LoopInvariants.{PackPre}
 use Rattle.repair_preorder.specs.ForestOfMesh.{in-range, rooted, ready}
 use Rattle.repair_preorder.specs.RootedForest.{RootedForest}
-use Rattle.repair_loop.specs.OneRaise.{LoopPre}
+use Rattle.repair_loop.specs.OneRaise.{ReadyPre}
 
 -- ---- the sum
 
@@ -40,7 +40,7 @@ pub total-all : (ws : List ℤ) (i sum : ℕ) → length ws ≤ i → Summed ws 
 unfolding totalAbs
 total-all ws i sum h S = let r = rw (drop-of-length-le ws h) at (S .rest) in omega (arith, r)
 
--- ---- what the loop is called for
+-- ---- what repair is called for
 
 pub record StartPre (n : ℕ) (ws bs s : List ℤ) : Type 0 where
   pub triangles : List ℕ
@@ -66,10 +66,10 @@ module _ (n : ℕ) (s s₁ s₂ : List ℤ) (L : Packed n (withRim (peeling s)) 
   pub all-ready : (ts ls : List ℕ) → Peeled n ts ls s → Ready n ts ls s₂
   all-ready ts ls P = ready P s₂ (built (withRim (peeling s)) L N (rooted P))
 
-  pub loop-pre : (ws bs bs′ : List ℤ) (sum : ℕ) (S : StartPre n ws bs s) → length s₂ ≡ length s → bs′ ≡ forward n (S .triangles) (S .labels) ws →
+  pub ready-pre : (ws bs bs′ : List ℤ) (sum : ℕ) (S : StartPre n ws bs s) → length s₂ ≡ length s → bs′ ≡ forward n (S .triangles) (S .labels) ws →
       sum ≡ totalAbs ws →
-      LoopPre n ws bs′ s₂ sum
-  loop-pre ws bs bs′ sum S long drawn summed =
+      ReadyPre n ws bs′ s₂ sum
+  ready-pre ws bs bs′ sum S long drawn summed =
       record {
         triangles = S .triangles;
         labels = S .labels;

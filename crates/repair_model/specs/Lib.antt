@@ -9,3 +9,4 @@ pub mod Raise
 pub mod Search
 pub mod Ready
 pub mod LoopState
+pub mod FirstRaise

@@ -11,13 +11,13 @@ use native.Mathlib.Decide.{decLt}
 use lib.Dec.{eqb, ltb}
 use lib.ListN.{length, length-append}
 use lib.IntN.{ℤ, pos}
-use lib.Signed.{_≤ℤ_}
+use lib.Signed.{_≤ℤ_, ≤ℤ-refl}
 use borrow.Author.Tests.{lt-ltb, le-ltb, eq-eqb, eqb-true}
 use Rattle.definitions.specs.Lists.{first, any, totalAbs}
 use Rattle.definitions.specs.Mesh.{weightsLength, org, inner, opp}
 use Rattle.definitions.specs.Forward.{forward}
 use Rattle.definitions.specs.Repair.{limit, bad, raise, addTo, Ending, finished, stopped, outOfFuel, RepairState, repairLoop, repair}
-use Rattle.definitions.specs.Refusals.{row9, row10}
+use Rattle.definitions.specs.Refusals.{row10}
 use Rattle.laws.specs.Integers.{int, zpos}
 use Rattle.laws.specs.Lists.{_∈_, tested, clash, any-true, any-false, first-at, first-not}
 use Rattle.theory_sphere.specs.Sphere.{Sphere}
@@ -26,12 +26,12 @@ use Rattle.theory_crossings.specs.UnitMaps.{units}
 use Rattle.theory_repair.specs.Coordinates.{inner-range}
 use Rattle.theory_repair.specs.Areas.{Extended, good}
 use Rattle.theory_repair.specs.Raises.{length-addTo, raise-keeps, raise-extends, bad-raise}
-use Rattle.theory_repair.specs.Repairs.{repair-outcome}
+use Rattle.theory_repair.specs.Repairs.{light-9, repair-outcome}
 use Rattle.theory_repair.specs.AllWalks.{walkTriangles}
 use Rattle.theory_repair.specs.RegionBorders.{off-walks}
 use Rattle.scratch_tables.specs.Tables.{tablesOf}
-use Rattle.repair_model.specs.Raise.{Drawn, Moved, drawn-within, drawn-first, moved-drawn, bad-kept}
-use Rattle.repair_model.specs.Search.{badAt, raiseAt, Found, Next}
+use Rattle.repair_model.specs.Raise.{Drawn, Moved, drawn-within, moved-drawn, bad-kept}
+use Rattle.repair_model.specs.Search.{badAt, raiseAt, Next}
 use Rattle.repair_model.specs.Ready.{Ready, walkOn-is, tells-bad, tells-raise}
 
 -- ---- one iteration of the definition's loop
@@ -57,12 +57,13 @@ module _ (n : ℕ) (ts ls : List ℕ) (k : ℕ) (ws : List ℤ) (rs : List ℕ) 
   unfolding repairLoop
   turn-raised t e f = rw (e, f, repairLoop)
 
--- ---- what holds each time the code has found the next bad triangle t (2n - 4, if there is none)
+-- ---- what holds each time the code looks for the next bad triangle
 
 -- ws₀ are the weights that were lent, ws those of now, bs what is drawn of them, and `sum` their absolute values together. Triangles below `full` are fully
 -- extended, and stay so.
-pub record State (n : ℕ) (ts ls : List ℕ) (ws₀ ws bs s : List ℤ) (sum count full t : ℕ) : Type 0 where
+pub record Reached (n : ℕ) (ts ls : List ℕ) (ws₀ ws bs s : List ℤ) (sum count full : ℕ) : Type 0 where
   pub ready : Ready n ts ls s
+  pub lent : length ws₀ ≡ weightsLength n
   pub long : length ws ≡ weightsLength n
   pub light : totalAbs ws ≤ limit
   pub summed : sum ≡ totalAbs ws
@@ -71,11 +72,14 @@ pub record State (n : ℕ) (ts ls : List ℕ) (ws₀ ws bs s : List ℤ) (sum co
   pub raises : List ℕ
   pub counted : length raises ≡ count
   pub rest : repairLoop n ts ls (2 * n - 4 - count) ws raises ≡ repair n ts ls ws₀
-  -- t is the lowest-numbered bad triangle
   pub positive : 0 < full
+  pub extended : (i : ℕ) → 0 < i → i < full → Extended ts ls (forward n ts ls ws) i
+
+-- once it has found t, the lowest-numbered bad one (2n - 4, if there is none)
+pub record State (n : ℕ) (ts ls : List ℕ) (ws₀ ws bs s : List ℤ) (sum count full t : ℕ) : Type 0 where
+  pub reached : Reached n ts ls ws₀ ws bs s sum count full
   pub lower : full ≤ t
   pub most : t ≤ 2 * n - 4
-  pub extended : (i : ℕ) → 0 < i → i < full → Extended ts ls (forward n ts ls ws) i
   pub before : (i : ℕ) → 0 < i → i < t → bad ts ls (forward n ts ls ws) i ≡ false
   pub here : t < 2 * n - 4 → bad ts ls (forward n ts ls ws) t ≡ true
 
@@ -84,11 +88,6 @@ pub record Passed (full t r : ℕ) : Type 0 where
   pub least : full ≤ r
   pub most : r ≤ t + 1
   pub each : (i : ℕ) → i < r → (i < full) ⊎ (i ≡ t)
-
--- weights that sum to no more than the limit pass 9
-light-9 : (ws : List ℤ) → totalAbs ws ≤ limit → row9 ws ≡ false
-unfolding row9
-light-9 ws h = le-ltb limit (totalAbs ws) h
 
 -- a member of none of three lists, or of one of them
 sorted : (L : ℕ → List ℕ) (i : ℕ) → ((c : ℕ) × (c < 3) × (i ∈ L c)) ⊎ ((c : ℕ) → c < 3 → i ∈ L c → ⊥)
@@ -114,19 +113,21 @@ sorted L i =
     none-of a b d (suc (suc zero)) h m = not-in 2 d m
     none-of a b d (suc (suc (suc c))) h m = absurd (omega arith)
 
-module _ (n : ℕ) (ts ls : List ℕ) (ws₀ : List ℤ) (len : length ws₀ ≡ weightsLength n) (ws bs s : List ℤ) (sum count full t : ℕ)
-    (S : State n ts ls ws₀ ws bs s sum count full t) where
+module _ (n : ℕ) (ts ls : List ℕ) (ws₀ ws bs s : List ℤ) (sum count full t : ℕ) (S : State n ts ls ws₀ ws bs s sum count full t) where
+  abbrev R : Reached n ts ls ws₀ ws bs s sum count full
+  R = S .reached
+
   above : 0 < t
-  above = omega (arith, S .positive, S .lower)
+  above = omega (arith, R .positive, S .lower)
 
   size : length ts ≡ 3 * (2 * n - 4)
-  size = S .ready .size
+  size = R .ready .size
 
   sphere : Sphere n (length ts / 3) (org ts) (opp ts)
-  sphere = S .ready .sphere
+  sphere = R .ready .sphere
 
   unit-maps : Units n ts ls
-  unit-maps = units ts ls sphere size (S .ready .realizer)
+  unit-maps = units ts ls sphere size (R .ready .realizer)
 
   -- no fuel is wanting
   pub more-fuel : count < 2 * n - 4
@@ -136,13 +137,13 @@ module _ (n : ℕ) (ts ls : List ℕ) (ws₀ : List ℤ) (len : length ws₀ ≡
         | yes h ↦ h
         | no h ↦
             let e : 2 * n - 4 - count ≡ 0 = omega (arith, h) in
-            absurd (repair-outcome n ts ls (sphere .least) size unit-maps ws₀ len .ends (ap ending (sym (rw e at (S .rest))) ∙ spent))
+            absurd (repair-outcome n ts ls (sphere .least) size unit-maps ws₀ (R .lent) .ends (ap ending (sym (rw e at (R .rest))) ∙ spent))
       ]
     where
       ending : RepairState → Ending
       ending m = m .ending
 
-      spent : repairLoop n ts ls 0 ws (S .raises) .ending ≡ outOfFuel
+      spent : repairLoop n ts ls 0 ws (R .raises) .ending ≡ outOfFuel
       spent = refl
 
   fuel : 2 * n - 4 - count ≡ suc (2 * n - 4 - (count + 1))
@@ -150,33 +151,33 @@ module _ (n : ℕ) (ts ls : List ℕ) (ws₀ : List ℤ) (len : length ws₀ ≡
 
   -- what is drawn is within the limit
   pub within : row10 bs ≡ false
-  within = drawn-within n ts ls unit-maps size ws bs (S .long) (light-9 ws (S .light)) (S .drawn)
+  within = drawn-within n ts ls unit-maps size ws bs (R .long) (light-9 ws (R .light)) (R .drawn)
 
   -- ---- the two ends
 
-  pub at-finished : 2 * n - 4 ≤ t → repair n ts ls ws₀ ≡ record { ending = finished; weights = ws; raises = S .raises }
+  pub at-finished : 2 * n - 4 ≤ t → repair n ts ls ws₀ ≡ record { ending = finished; weights = ws; raises = R .raises }
   at-finished h =
       let none-bad : first (bad ts ls (forward n ts ls ws)) (inner ts) ≡ none =
       rw (inner-range n ts size) (first-not (bad ts ls (forward n ts ls ws)) 1 (weightsLength n)
       (λ i a b. S .before i (omega arith) (omega (arith, sphere .least)))) in
-      sym (rw fuel at (S .rest)) ∙ turn-finished n ts ls (2 * n - 4 - (count + 1)) ws (S .raises) none-bad
+      sym (rw fuel at (R .rest)) ∙ turn-finished n ts ls (2 * n - 4 - (count + 1)) ws (R .raises) none-bad
 
   module _ (k : t < 2 * n - 4) (x : ℤ) (ex : x ≡ raiseAt (tablesOf s) bs t) where
     inside : t < length ts / 3
     inside = omega (arith, size)
 
     is-raise : x ≡ raise ts ls (forward n ts ls ws) t
-    is-raise = ex ∙ tells-raise n ts ls s (S .ready) ws bs (S .drawn) t above k
+    is-raise = ex ∙ tells-raise n ts ls s (R .ready) ws bs (R .drawn) t above k
 
     is-first : first (bad ts ls (forward n ts ls ws)) (inner ts) ≡ some t
     is-first =
         rw (inner-range n ts size)
         (first-at (bad ts ls (forward n ts ls ws)) 1 (weightsLength n) t above (omega (arith, k)) (λ i a b. S .before i (omega arith) b) (S .here k))
 
-    pub at-stopped : limit < totalAbs (addTo ws t x) → repair n ts ls ws₀ ≡ record { ending = stopped; weights = ws; raises = S .raises }
+    pub at-stopped : limit < totalAbs (addTo ws t x) → repair n ts ls ws₀ ≡ record { ending = stopped; weights = ws; raises = R .raises }
     at-stopped h =
-        sym (rw fuel at (S .rest))
-        ∙ turn-stopped n ts ls (2 * n - 4 - (count + 1)) ws (S .raises) t is-first
+        sym (rw fuel at (R .rest))
+        ∙ turn-stopped n ts ls (2 * n - 4 - (count + 1)) ws (R .raises) t is-first
         (rw is-raise at (lt-ltb limit (totalAbs (addTo ws t x)) h))
 
     -- ---- a raise
@@ -186,10 +187,10 @@ module _ (n : ℕ) (ts ls : List ℕ) (ws₀ : List ℤ) (len : length ws₀ ≡
       after = addTo ws t x
 
       long-after : length after ≡ weightsLength n
-      long-after = length-addTo ws t x ∙ S .long
+      long-after = length-addTo ws t x ∙ R .long
 
       drawn-after : Drawn n ts ls after bs′
-      drawn-after = moved-drawn n ts ls unit-maps size ws (S .long) t above inside x bs bs′ (S .drawn) M
+      drawn-after = moved-drawn n ts ls unit-maps size ws (R .long) t above inside x bs bs′ (R .drawn) M
 
       pub within-after : row10 bs′ ≡ false
       within-after = drawn-within n ts ls unit-maps size after bs′ long-after (light-9 after h) drawn-after
@@ -197,11 +198,11 @@ module _ (n : ℕ) (ts ls : List ℕ) (ws₀ : List ℤ) (len : length ws₀ ≡
       -- what was extended, and the raised triangle, are extended afterwards, and so not bad
       extended-after : (full′ : ℕ) → Passed full t full′ → (i : ℕ) → 0 < i → i < full′ → Extended ts ls (forward n ts ls after) i
       extended-after full′ Q i p q =
-          let one = bad-raise n ts ls size unit-maps ws (S .long) t above inside (S .here k) in
+          let one = bad-raise n ts ls size unit-maps ws (R .long) t above inside (S .here k) in
           let up : pos 0 ≤ℤ x = rw is-raise (omega (int, zpos 0, zpos 1)) in
           elim (Q .each i q) [
-            | inl l ↦ raise-keeps n ts ls size unit-maps ws (S .long) t above inside x up i p (omega (arith, size, S .lower)) (S .extended i p l)
-            | inr e ↦ rw (e, is-raise) (raise-extends n ts ls size unit-maps ws (S .long) t above inside)
+            | inl l ↦ raise-keeps n ts ls size unit-maps ws (R .long) t above inside x up i p (omega (arith, size, S .lower)) (R .extended i p l)
+            | inr e ↦ rw e (raise-extends n ts ls size unit-maps ws (R .long) t above inside x (rw is-raise (≤ℤ-refl (raise ts ls (forward n ts ls ws) t))))
           ]
 
       fine-after : (full′ : ℕ) → Passed full t full′ → (i : ℕ) → 0 < i → i < full′ → bad ts ls (forward n ts ls after) i ≡ false
@@ -209,17 +210,17 @@ module _ (n : ℕ) (ts ls : List ℕ) (ws₀ : List ℤ) (len : length ws₀ ≡
 
       module _ (full′ t′ : ℕ) (N : Next (tablesOf s) bs′ full t (2 * n - 4) t′) (Q : Passed full t full′) where
         bad-after : (i : ℕ) → 0 < i → i < 2 * n - 4 → badAt (tablesOf s) bs′ i ≡ bad ts ls (forward n ts ls after) i
-        bad-after i p q = tells-bad n ts ls s (S .ready) after bs′ drawn-after i p q
+        bad-after i p q = tells-bad n ts ls s (R .ready) after bs′ drawn-after i p q
 
         -- Below `low` no triangle is bad: those below `full` are extended, those on a walk have been looked at, and the others keep their areas.
         good-below : (i : ℕ) → 0 < i → full ≤ i → i < N .low → bad ts ls (forward n ts ls after) i ≡ false
         good-below i p l m =
             let q : i < 2 * n - 4 = omega (arith, N .low-most) in
             elim (sorted (λ c. walkTriangles ts ls c (length ts / 3) t) i) [
-              | inl o ↦ sym (bad-after i p q) ∙ N .clear (o .0) (o .1) i (rw (walkOn-is n ts ls s (S .ready) (o .0) (o .1) t k) (o .2)) l m
+              | inl o ↦ sym (bad-after i p q) ∙ N .clear (o .0) (o .1) i (rw (walkOn-is n ts ls s (R .ready) (o .0) (o .1) t k) (o .2)) l m
               | inr o ↦
-                  bad-kept n ts ls unit-maps size ws (S .long) t above inside x i p (omega (arith, size))
-                  (off-walks ts ls sphere size (S .ready .realizer) t i above inside p (omega (arith, size)) o)
+                  bad-kept n ts ls unit-maps size ws (R .long) t above inside x i p (omega (arith, size))
+                  (off-walks ts ls sphere size (R .ready .realizer) t i above inside p (omega (arith, size)) o)
                   ∙ S .before i p (omega (arith, N .low-most))
             ]
 
@@ -240,7 +241,7 @@ module _ (n : ℕ) (ts ls : List ℕ) (ws₀ : List ℤ) (len : length ws₀ ≡
             elim (decLt t′ full′) [
               | no l ↦ omega (arith, l)
               | yes l ↦
-                  let p : 0 < t′ = omega (arith, S .positive, N .low-least, N .found .least) in
+                  let p : 0 < t′ = omega (arith, R .positive, N .low-least, N .found .least) in
                   let m : t′ < 2 * n - 4 = omega (arith, Q .most) in
                   clash (sym (bad-after t′ p m) ∙ N .found .hit m) (fine-after full′ Q t′ p l)
             ]
@@ -248,47 +249,25 @@ module _ (n : ℕ) (ts ls : List ℕ) (ws₀ : List ℤ) (len : length ws₀ ≡
         pub at-raised : (sum′ : ℕ) → sum′ ≡ totalAbs after → State n ts ls ws₀ after bs′ s sum′ (count + 1) full′ t′
         at-raised sum′ e =
             record {
-              ready = S .ready;
-              long = long-after;
-              light = h;
-              summed = e;
-              drawn = drawn-after;
-              raises = S .raises ++ (t ∷ []);
-              counted = omega (arith, length-append (S .raises) (t ∷ []), S .counted);
-              rest =
-                  ap (λ (y : ℤ). repairLoop n ts ls (2 * n - 4 - (count + 1)) (addTo ws t y) (S .raises ++ (t ∷ []))) is-raise
-                  ∙ sym (turn-raised n ts ls (2 * n - 4 - (count + 1)) ws (S .raises) t is-first (rw is-raise at (le-ltb limit (totalAbs after) h)))
-                  ∙ rw fuel at (S .rest);
-              positive = omega (arith, S .positive, Q .least);
+              reached =
+                  record {
+                    ready = R .ready;
+                    lent = R .lent;
+                    long = long-after;
+                    light = h;
+                    summed = e;
+                    drawn = drawn-after;
+                    raises = R .raises ++ (t ∷ []);
+                    counted = omega (arith, length-append (R .raises) (t ∷ []), R .counted);
+                    rest =
+                        ap (λ (y : ℤ). repairLoop n ts ls (2 * n - 4 - (count + 1)) (addTo ws t y) (R .raises ++ (t ∷ []))) is-raise
+                        ∙ sym (turn-raised n ts ls (2 * n - 4 - (count + 1)) ws (R .raises) t is-first (rw is-raise at (le-ltb limit (totalAbs after) h)))
+                        ∙ rw fuel at (R .rest);
+                    positive = omega (arith, R .positive, Q .least);
+                    extended = extended-after full′ Q;
+                  };
               lower = full-lower;
               most = N .found .most;
-              extended = extended-after full′ Q;
               before = good-after;
-              here = λ q. sym (bad-after t′ (omega (arith, S .positive, N .low-least, N .found .least)) q) ∙ N .found .hit q;
+              here = λ q. sym (bad-after t′ (omega (arith, R .positive, N .low-least, N .found .least)) q) ∙ N .found .hit q;
             }
-
--- before the first raise
-pub at-start : (n : ℕ) (ts ls : List ℕ) (ws₀ bs s : List ℤ) (sum t : ℕ) → length ws₀ ≡ weightsLength n → totalAbs ws₀ ≤ limit →
-    sum ≡ totalAbs ws₀ →
-    bs ≡ forward n ts ls ws₀ → Ready n ts ls s → Found (badAt (tablesOf s) bs) 1 (2 * n - 4) t → State n ts ls ws₀ ws₀ bs s sum 0 1 t
-unfolding repair
-at-start n ts ls ws₀ bs s sum t len light summed drawn Y F =
-    record {
-      ready = Y;
-      long = len;
-      light = light;
-      summed = summed;
-      drawn = D;
-      raises = [];
-      counted = refl;
-      rest = let e : 2 * n - 4 - 0 ≡ 2 * n - 4 = omega arith in ap (λ (k : ℕ). repairLoop n ts ls k ws₀ []) e;
-      positive = omega arith;
-      lower = F .least;
-      most = F .most;
-      extended = λ i p q. absurd (omega arith);
-      before = λ i p q. sym (tells-bad n ts ls s Y ws₀ bs D i p (omega (arith, F .most))) ∙ F .before i p q;
-      here = λ q. sym (tells-bad n ts ls s Y ws₀ bs D t (F .least) q) ∙ F .hit q;
-    }
-  where
-    D : Drawn n ts ls ws₀ bs
-    D = rw drawn (drawn-first n ts ls (units ts ls (Y .sphere) (Y .size) (Y .realizer)) (Y .size) ws₀ len (light-9 ws₀ light))

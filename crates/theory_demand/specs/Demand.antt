@@ -69,6 +69,9 @@ module _ (n outerPlace : ℕ) (ts : List ℕ) where
     -- Where the call is not refused, it leaves no inner triangle flat or turned.
     pub repaired-upright : (ws bs scratch : List ℤ) (count : ℕ) → repairCall n outerPlace ts ws bs scratch .answer ≡ done count →
         (t : ℕ) → t ∈ inner mesh → bad mesh ls (repairCall n outerPlace ts ws bs scratch .coordinates) t ≡ false
+    -- There too, the total of the weights that it leaves is 1 or more (C-21).
+    pub repaired-total : (ws bs scratch : List ℤ) (count : ℕ) → repairCall n outerPlace ts ws bs scratch .answer ≡ done count →
+        pos 1 ≤ℤ total (repairCall n outerPlace ts ws bs scratch .weights)
 
 -- ---- an accepted mesh, its outer triangle in front, always has labels that keep the rules, and so unit maps
 
@@ -112,4 +115,5 @@ demand n outerPlace ts accepted there =
       count-raises = λ ws bs scratch. RepairTheory.count-raises n outerPlace ts (λ _. U) ws bs scratch;
       count-changed = λ ws bs scratch. RepairTheory.count-changed n outerPlace ts (λ _. U) ws bs scratch;
       repaired-upright = λ ws bs scratch. RepairTheory.done-upright n outerPlace ts (λ _. U) ws bs scratch;
+      repaired-total = λ ws bs scratch. RepairTheory.done-total n outerPlace ts (λ _. U) ws bs scratch;
     }

@@ -11,12 +11,12 @@ use lib.ListN.{length}
 use lib.IntN.{ℤ, pos, _+ℤ_}
 use lib.Signed.{_≤ℤ_}
 use borrow.Author.Tests.{lt-ltb}
-use Rattle.definitions.specs.Lists.{first, total, totalAbs}
+use Rattle.definitions.specs.Lists.{total, totalAbs}
 use Rattle.definitions.specs.Mesh.{trianglesLength, weightsLength, coordinatesLength, org, inner, fronted}
 use Rattle.definitions.specs.Labels.{labels, outer}
 use Rattle.definitions.specs.Forward.{weight, forward}
 use Rattle.definitions.specs.Backward.{coordinate, backward}
-use Rattle.definitions.specs.Repair.{limit, bad, raise, addTo, finished, stopped, outOfFuel, repair, changed}
+use Rattle.definitions.specs.Repair.{limit, bad, addTo, finished, stopped, outOfFuel, repair, changed}
 use Rattle.definitions.specs.Answers.{done, refused, numbered, stoppedAfter, Refusal, row}
 use Rattle.definitions.specs.Refusals.{Accepted, AcceptedWeights, AcceptedCoordinates, slice, row9, row10, row11, row12, Repaired, repairAnswer, repairCall}
 use Rattle.laws.specs.Lists.{_∈_}
@@ -30,7 +30,7 @@ use Rattle.theory_repair.specs.Areas.{positive-good}
 use Rattle.theory_repair.specs.Additive.{plus, forward-plus}
 use Rattle.theory_repair.specs.Calls.{found, answerAt, call-answer, call-weights, call-coordinates, found-accepted, found-only, toAnswer}
 use Rattle.theory_repair.specs.Calls.{toAnswer-zero, finished-well, stopped-early}
-use Rattle.theory_repair.specs.Repairs.{Outcome, few, repair-outcome}
+use Rattle.theory_repair.specs.Repairs.{NextRaise, Outcome, few, repair-outcome}
 
 -- ---- of the definitions
 
@@ -108,11 +108,16 @@ module _ (n : ℕ) (ts ls : List ℕ) (acc : Accepted n ts) (U : Units n ts ls) 
         bad ts ls (forward n ts ls (repair n ts ls ws .weights)) t ≡ false
     finished-upright e t m = let r = inner-in n ts least size m in outcome .mends e t (r .0) (r .1)
 
-    -- Where it stops there is a bad triangle, and with the raise of the first one row 9 would find the weights too large.
+    -- There the total of the weights is 1 or more.
+    pub finished-total : repair n ts ls ws .ending ≡ finished → pos 1 ≤ℤ total (repair n ts ls ws .weights)
+    finished-total e = outcome .totals e
+
+    -- Where it stops there is a raise that comes next, and with it row 9 would find the weights too large.
     pub stopped-rightly : repair n ts ls ws .ending ≡ stopped →
         (t : ℕ)
-        × (first (bad ts ls (forward n ts ls (repair n ts ls ws .weights))) (inner ts) ≡ some t)
-        × (limit < totalAbs (addTo (repair n ts ls ws .weights) t (raise ts ls (forward n ts ls (repair n ts ls ws .weights)) t)))
+        × (x : ℤ)
+        × NextRaise n ts ls (repair n ts ls ws .weights) (length (repair n ts ls ws .raises)) t x
+        × (limit < totalAbs (addTo (repair n ts ls ws .weights) t x))
     stopped-rightly e = outcome .stops e
 
     -- The weights keep their number, and stay such that row 9 lets them through.
@@ -206,23 +211,31 @@ module _ (n outerPlace : ℕ) (ts : List ℕ) where
       count-changed =
           rw (call-weights n outerPlace ts ws bs scratch, on) (count-raises ∙ sym (raises-changed n mesh (labels n mesh) acc (units acc) ws len))
 
-    -- Where it is not refused, the coordinates that it leaves have no flat and no turned inner triangle.
+    -- where it is not refused repair came to its end
+    came-to-end : (count : ℕ) → call .answer ≡ done count → repair n mesh (labels n mesh) ws .ending ≡ finished
+    came-to-end count h =
+        let m = repair n mesh (labels n mesh) ws in
+        finished-well (m .ending) (length (m .raises)) count
+        (ap (answerAt n outerPlace ts ws bs scratch) (sym (on count (inl h))) ∙ sym (call-answer n outerPlace ts ws bs scratch) ∙ h)
+
+    -- There the coordinates that it leaves have no flat and no turned inner triangle, ..
     pub done-upright : (count : ℕ) → call .answer ≡ done count → (t : ℕ) → t ∈ inner mesh →
         bad mesh (labels n mesh) (call .coordinates) t ≡ false
     done-upright count h t i =
-        let e = on count (inl h) in
-        let m = repair n mesh (labels n mesh) ws in
-        let q : repairAnswer (m .ending) (length (m .raises)) ≡ done count =
-        ap (answerAt n outerPlace ts ws bs scratch) (sym e) ∙ sym (call-answer n outerPlace ts ws bs scratch) ∙ h in
-        rw (call-coordinates n outerPlace ts ws bs scratch, e)
-        (finished-upright n mesh (labels n mesh) (acc count (inl h)) (units (acc count (inl h))) ws (len count (inl h))
-        (finished-well (m .ending) (length (m .raises)) count q) t i)
+        let a = acc count (inl h) in
+        rw (call-coordinates n outerPlace ts ws bs scratch, on count (inl h))
+        (finished-upright n mesh (labels n mesh) a (units a) ws (len count (inl h)) (came-to-end count h) t i)
 
-    -- Where it answers 13, the raise that comes next, of the first bad triangle in the coordinates that it leaves, would break 9.
+    -- .. and the total of the weights that it leaves is 1 or more.
+    pub done-total : (count : ℕ) → call .answer ≡ done count → pos 1 ≤ℤ total (call .weights)
+    done-total count h =
+        let a = acc count (inl h) in
+        rw (call-weights n outerPlace ts ws bs scratch, on count (inl h))
+        (finished-total n mesh (labels n mesh) a (units a) ws (len count (inl h)) (came-to-end count h))
+
+    -- Where it answers 13, the raise that comes next at the weights that it leaves would break 9.
     pub refused-rightly : (count : ℕ) → call .answer ≡ refused (stoppedAfter count) →
-        (t : ℕ)
-        × (first (bad mesh (labels n mesh) (call .coordinates)) (inner mesh) ≡ some t)
-        × (row9 (addTo (call .weights) t (raise mesh (labels n mesh) (call .coordinates) t)) ≡ true)
+        (t : ℕ) × (x : ℤ) × NextRaise n mesh (labels n mesh) (call .weights) count t x × (row9 (addTo (call .weights) t x) ≡ true)
     refused-rightly count h =
         let e = on count (inr h) in
         let m = repair n mesh (labels n mesh) ws in
@@ -230,11 +243,7 @@ module _ (n outerPlace : ℕ) (ts : List ℕ) where
         ap (answerAt n outerPlace ts ws bs scratch) (sym e) ∙ sym (call-answer n outerPlace ts ws bs scratch) ∙ h in
         let r = stopped-rightly n mesh (labels n mesh) (acc count (inr h)) (units (acc count (inr h))) ws (len count (inr h))
         (stopped-early (m .ending) (length (m .raises)) count q) in
-        rw (call-weights n outerPlace ts ws bs scratch, call-coordinates n outerPlace ts ws bs scratch, e) (
-          r .0,
-          r .1,
-          over (addTo (m .weights) (r .0) (raise mesh (labels n mesh) (forward n mesh (labels n mesh) (m .weights)) (r .0))) (r .2),
-        )
+        rw (call-weights n outerPlace ts ws bs scratch, e, count-raises count (inr h)) (r .0, r .1, r .2, over (addTo (m .weights) (r .0) (r .1)) (r .3))
 
     -- It never answers the number that stands for fuel that ran out.
     pub never-out-of-fuel : call .answer ≢ refused (numbered 0)

@@ -1,20 +1,21 @@
--- One raise: what it does to weights and coordinates; a bad triangle's raise is at least 1 and extends it fully; others that are extended stay so. Assumes
--- nothing.
+-- One raise: what it does to weights, their total, and coordinates; by its own raise or more a triangle is fully extended, and a bad one's is at least 1;
+-- others that are extended stay so. Assumes nothing.
 use Prim.Native.Nat.{ℕ, zero, suc, _+_, _-_, _/_, _≤_, _<_}
 use mathlib.Core.Path.{_≡_, refl, ap, sym, _∙_}
 use mathlib.Core.Logic.{_≢_, inl, inr}
 use mathlib.Core.Bool.{Bool, true, false, cond}
 use mathlib.Core.List.{List, _∷_}
 use native.Mathlib.Omega.{arith}
-use lib.ListN.{length, getD, length-set}
+use lib.ListN.{length, getD, set, length-set}
 use lib.Seq.{getD-set-same, getD-set-other}
 use lib.IntN.{ℤ, pos, _+ℤ_, _-ℤ_}
 use lib.Signed.{leZ, _≤ℤ_, _<ℤ_, ≤ℤ-refl}
+use Rattle.definitions.specs.Lists.{total}
 use Rattle.definitions.specs.Mesh.{trianglesLength, weightsLength}
 use Rattle.definitions.specs.Forward.{weight, forward}
 use Rattle.definitions.specs.Repair.{cornerCoordinate, bad, maxZ, deficit, raise, addTo}
 use Rattle.laws.specs.Integers.{int, zpos, z+, z-}
-use Rattle.laws.specs.Lists.{tested, clash}
+use Rattle.laws.specs.Lists.{tested, clash, total-set}
 use Rattle.laws.specs.Ring.{leZ-true, leZ-false}
 use Rattle.laws.specs.Sums.{sum-change}
 use Rattle.theory_realizer.specs.Units.{Units, bit, vertexAt, same?}
@@ -109,6 +110,16 @@ unfolding addTo weight
 weight-other ws t x zero d h = refl
 weight-other ws t x (suc v) d h = getD-set-other ws (t - 1) v (getD (pos 0 ∷ ws) t (pos 0) +ℤ x) (pos 0) (omega arith)
 
+-- the total is greater by the raise
+pub total-raised : (ws : List ℤ) (t : ℕ) (x : ℤ) → 0 < t → t ≤ length ws → total (addTo ws t x) ≡ total ws +ℤ x
+unfolding addTo weight
+total-raised ws zero x h k = absurd (omega arith)
+total-raised ws (suc s) x h k =
+    let e : suc s - 1 ≡ s = omega arith in
+    let w = getD ws s (pos 0) in
+    let q = total-set ws s (w +ℤ x) (pos 0) (omega arith) in
+    rw e (omega (int, z+ w x, z+ (total (set ws s (w +ℤ x))) w, z+ (total ws) (w +ℤ x), z+ (total ws) x))
+
 -- ---- coordinates after one raise
 
 -- the share of a sum
@@ -159,18 +170,19 @@ module _ (n : ℕ) (ts ls : List ℕ) (size : length ts ≡ trianglesLength n) (
         (isPart n ts ls c (vertexAt ts ls s a) t) (isPart n ts ls c (vertexAt ts ls s c) t) (same? s t)
         (raised-value c s a h k hc ha) (raised-value c s c h k hc hc) hx (isPart-most n ts ls U t s ht kt h k c a hc ha d) (ext c a hc ha d)
 
-  -- the raised triangle is extended afterwards
-  pub raise-extends : Extended ts ls (forward n ts ls (addTo ws t (raise ts ls (forward n ts ls ws) t))) t
-  raise-extends c a hc ha d =
+  -- a triangle raised by its own raise or more is extended afterwards
+  pub raise-extends : (x : ℤ) → raise ts ls (forward n ts ls ws) t ≤ℤ x → Extended ts ls (forward n ts ls (addTo ws t x)) t
+  raise-extends x l c a hc ha d =
       let bs = forward n ts ls ws in
-      let x = raise ts ls bs t in
+      let y = raise ts ls bs t in
+      let v = cornerCoordinate ts ls bs c t a in
+      let w = cornerCoordinate ts ls bs c t c in
+      let past : v <ℤ (w +ℤ x) = let r = raise-past ts ls bs t c a hc ha d in omega (int, z+ w y, z+ w x) in
       let bs′ = forward n ts ls (addTo ws t x) in
       let p = isPart n ts ls c (vertexAt ts ls t a) t in
       let q = isPart n ts ls c (vertexAt ts ls t c) t in
-      comes (cornerCoordinate ts ls bs c t a) (cornerCoordinate ts ls bs c t c) x (cornerCoordinate ts ls bs′ c t a)
-      (cornerCoordinate ts ls bs′ c t c) p q
-      (raised-value x c t a ht kt hc ha) (raised-value x c t c ht kt hc hc)
-      (omega (arith, isPart-most n ts ls U t t ht kt ht kt c a hc ha d, same-one t)) (raise-past ts ls bs t c a hc ha d)
+      comes v w x (cornerCoordinate ts ls bs′ c t a) (cornerCoordinate ts ls bs′ c t c) p q (raised-value x c t a ht kt hc ha)
+      (raised-value x c t c ht kt hc hc) (omega (arith, isPart-most n ts ls U t t ht kt ht kt c a hc ha d, same-one t)) past
 
   -- A bad triangle's raise is at least 1: with a raise of 0 or less it would be extended already.
   pub bad-raise : bad ts ls (forward n ts ls ws) t ≡ true → pos 1 ≤ℤ raise ts ls (forward n ts ls ws) t

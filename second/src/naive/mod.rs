@@ -13,7 +13,7 @@ mod text;
 pub use labels::{by_label, labels};
 pub use maps::Labelled;
 pub use mesh::refusal;
-pub use repair::{areas, next_raise, repair_by, too_heavy, Raise};
+pub use repair::{areas, first_raise, next_raise, own_raise, repair_by, too_heavy, Raise};
 pub use snap::snapped;
 pub use text::{packmap, read, Verdict};
 

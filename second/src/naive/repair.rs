@@ -18,19 +18,30 @@ pub fn areas(corners: &[Triple], b: &[i64]) -> Vec<i128> {
     corners.iter().map(area).collect()
 }
 
-/// The raise that coordinates b call for, if any.
-pub fn next_raise(corners: &[Triple], b: &[i64]) -> Option<Raise> {
-    let t = areas(corners, b).iter().position(|&d| d <= 0)?;
+/// 1 + m of a triangle.
+pub fn own_raise(corners: &Triple, b: &[i64]) -> i64 {
     let mut m = i64::MIN;
     for c in 0..3 {
-        let own = b[3 * corners[t][c] + c];
+        let own = b[3 * corners[c] + c];
         for d in 0..3 {
             if d != c {
-                m = m.max(b[3 * corners[t][d] + c] - own);
+                m = m.max(b[3 * corners[d] + c] - own);
             }
         }
     }
-    Some((t, 1 + m))
+    1 + m
+}
+
+/// The raise that comes before all others, if N is below 1.
+pub fn first_raise(corners: &[Triple], weights: &[i64], b: &[i64]) -> Option<Raise> {
+    let total: i64 = weights.iter().sum();
+    (total < 1).then(|| (0, own_raise(&corners[0], b).max(1 - total)))
+}
+
+/// The raise that coordinates b call for, if any.
+pub fn next_raise(corners: &[Triple], b: &[i64]) -> Option<Raise> {
+    let t = areas(corners, b).iter().position(|&d| d <= 0)?;
+    Some((t, own_raise(&corners[t], b)))
 }
 
 /// Whether row 9 refuses the weights.
@@ -46,13 +57,17 @@ pub fn repair_by(
     mut forward: impl FnMut(&[i64]) -> Vec<i64>,
 ) -> (Vec<Raise>, bool) {
     let mut raises = vec![];
-    while let Some((t, step)) = next_raise(corners, &forward(weights)) {
+    let mut b = forward(weights);
+    let mut due = first_raise(corners, weights, &b).or_else(|| next_raise(corners, &b));
+    while let Some((t, step)) = due {
         weights[t] += step;
         if too_heavy(weights) {
             weights[t] -= step;
             return (raises, true);
         }
         raises.push((t, step));
+        b = forward(weights);
+        due = next_raise(corners, &b);
     }
     (raises, false)
 }

@@ -68,7 +68,7 @@ const GROUPS: [(&str, &[Test]); 13] = [
     ("labels", &[labels::random]),
     ("forward and backward", &[maps::random]),
     ("refused weights and coordinates", &[maps::refused_numbers]),
-    ("repair", &[repair::random]),
+    ("repair", &[repair::random, repair::first_raises]),
     (
         "snapping",
         &[
@@ -79,7 +79,7 @@ const GROUPS: [(&str, &[Test]); 13] = [
             snap::lists,
         ],
     ),
-    ("job texts", &[text::example, text::random]),
+    ("job texts", &[text::example, text::by_hand, text::random]),
     (
         "damaged texts",
         &[

@@ -5,6 +5,7 @@
 //! other calls put the outer triangle at random places and hold them against the
 //! slow references.
 
+use super::maps::on_tetra;
 use super::{refused, sizes, Trials};
 use crate::shells::{FIVE, PAIR, ROWS, TETRA};
 use crate::spheres::{any_weights, moved, place, sphere};
@@ -46,7 +47,8 @@ impl Trials {
     }
 }
 
-/// P1 to P8, the first triangle of each shell moved to every place.
+/// P1 to P5, the first triangle of each shell moved to every place; P6 to P8 are
+/// in `repair`.
 pub(super) fn checked(trials: &mut Trials) {
     let in_turn = |triangles: usize| [0, 1, 2].repeat(triangles);
     let five = [in_turn(3), vec![1, 2, 0, 2, 0, 1]].concat();
@@ -66,27 +68,16 @@ pub(super) fn checked(trials: &mut Trials) {
         let wanted = vec![5, 0, 0, 0, 5, 0, 0, 0, 5, 1, 1, 3, 2, 2, 1];
         trials.equal(got, Ok(wanted), "P4 at a place");
     }
-    // Weights, and weights and raises after a repair. Vertex 3 is at (w2, w1, w3).
-    let cases = [
-        ([5, 3, 2], [5, 3, 2], 0),
-        ([5, 3, -1], [5, 3, 1], 1),
-        ([0; 3], [1; 3], 3),
-        ([-1; 3], [-1; 3], 0),
-    ];
-    let drawn = |w: [i64; 3]| {
-        let total: i64 = w.iter().sum();
-        vec![total, 0, 0, 0, total, 0, 0, 0, total, w[1], w[0], w[2]]
-    };
+    // Vertex 3 is at (w2, w1, w3), whatever N is.
     for outer in 0..4 {
         let t = moved(&TETRA, 0, outer);
-        for (w, raised, count) in cases {
+        for w in [[5, 3, 2], [5, 3, -1], [0; 3], [-1; 3]] {
+            let total: i64 = w.iter().sum();
+            let drawn = on_tetra(total, [0, total, 0], [w[1], w[0], w[2]]);
             let got = trials.forward(4, outer, &t, &w);
-            trials.equal(got, Ok(drawn(w)), "P5 at a place");
-            let got = trials.backward(4, outer, &t, &drawn(w));
+            trials.equal(got, Ok(drawn.clone()), "P5 at a place");
+            let got = trials.backward(4, outer, &t, &drawn);
             trials.equal(got, Ok(w.to_vec()), "P5 at a place, back");
-            let got = trials.repair(4, outer, &t, &w);
-            let wanted = (Ok(count), raised.to_vec(), drawn(raised));
-            trials.equal(got, wanted, "P6 to P8 at a place");
         }
     }
 }

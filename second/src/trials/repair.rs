@@ -1,14 +1,14 @@
-//! Tests of repair: P6 to P8, rows 1, 2, 9 and 13, and random spheres. What is
-//! wanted comes from document 01, from the slow repair (with the slow forward
-//! map up to 24 vertices, with the fast one up to 150 and once on 500), and from
-//! what holds after every repair. The refusals of the mesh check are tested in
-//! `mesh`, random weights that rows 9 and 13 refuse in `maps::refused_numbers`.
+//! Tests of repair: P6 to P8 and more repairs worked out by hand, rows 1, 2, 9
+//! and 13, and random spheres. What is wanted comes from the papers, from the
+//! slow repair (with the slow forward map up to 24 vertices, with the fast one up
+//! to 150 and once on 500), and from what holds after every repair. The refusals
+//! of the mesh check are tested in `mesh`, random weights that rows 9 and 13
+//! refuse in `maps::refused_numbers`.
 
-use super::maps::on_tetra;
 use super::{refused, sizes, Trials, WrongLength, FILL, WRONG_N};
-use crate::shells::TETRA;
-use crate::spheres::{any_weights, place, sphere, weights, KINDS};
-use crate::{damage, maps, naive, repair, Answer, Extra, Refusal, Work, LIMIT};
+use crate::shells::{repairs, stopped, TETRA};
+use crate::spheres::{any_weights, moved, place, sphere, weights, KINDS};
+use crate::{damage, maps, naive, repair, Answer, Extra, Work, LIMIT};
 
 impl Trials {
     /// Answer, weights and coordinates after.
@@ -33,36 +33,53 @@ impl Trials {
     }
 }
 
-/// Row 13 after so many raises.
-fn stopped(count: usize) -> Answer<usize> {
-    Err(Refusal {
-        number: 13,
-        extra: Extra::Count(count),
-    })
-}
-
-/// P6 to P8.
+/// The areas of P6 and of P8, whose weights are all below 0, and the repairs worked
+/// out by hand, the first triangle of each mesh moved to every place.
 pub(super) fn checked(trials: &mut Trials) {
     let corners = naive::by_label(0, &TETRA, &[0, 1, 2].repeat(3));
-    let b = trials
-        .forward(4, 0, &TETRA, &[5, 3, -1])
-        .unwrap_or_default();
-    trials.equal(naive::areas(&corners, &b), vec![35, 21, -7], "P6, areas");
-    let nine = vec![9, 0, 0, 0, 9, 0, 0, 0, 9, 3, 5, 1];
-    let got = trials.repair(4, 0, &TETRA, &[5, 3, -1]);
-    trials.equal(got, (Ok(1), vec![5, 3, 1], nine), "P6, one raise by 2");
-
-    let three = vec![3, 0, 0, 0, 3, 0, 0, 0, 3, 1, 1, 1];
-    let got = trials.repair(4, 0, &TETRA, &[0; 3]);
-    trials.equal(got, (Ok(3), vec![1; 3], three.clone()), "P7");
-
-    let minus: Vec<i64> = three.iter().map(|x| -x).collect();
-    trials.equal(naive::areas(&corners, &minus), vec![3; 3], "P8, areas");
-    let got = trials.repair(4, 0, &TETRA, &[-1; 3]);
-    trials.equal(got, (Ok(0), vec![-1; 3], minus), "P8");
+    for (weights, areas, what) in [
+        ([5, 3, -1], vec![35, 21, -7], "P6, areas"),
+        ([-1; 3], vec![3; 3], "P8, areas"),
+    ] {
+        let b = trials.forward(4, 0, &TETRA, &weights).unwrap_or_default();
+        trials.equal(naive::areas(&corners, &b), areas, what);
+    }
+    for repair in repairs() {
+        let n = repair.n;
+        for outer in 0..2 * n - 4 {
+            let t = moved(repair.triangles, 0, outer);
+            let got = trials.repair(n, outer, &t, &repair.weights);
+            let wanted = (
+                repair.answer,
+                repair.left.clone(),
+                repair.coordinates.clone(),
+            );
+            trials.equal(got, wanted, "by hand");
+            let labels = trials.labels(n, outer, &t).unwrap_or_default();
+            let slow = naive::Labelled::new(n, outer, &t, &labels);
+            let mut new = repair.weights.clone();
+            let (raises, ended) = slow.repair(&mut new);
+            let got = counted(&raises, ended);
+            trials.equal(
+                (got, new),
+                (repair.answer, repair.left.clone()),
+                "by hand, slow",
+            );
+        }
+    }
 }
 
-/// Rows 1, 9 and 13.
+/// The answer of the slow repair.
+fn counted(raises: &[naive::Raise], ended: bool) -> Answer<usize> {
+    let count = raises.len();
+    if ended {
+        stopped(count)
+    } else {
+        Ok(count)
+    }
+}
+
+/// Rows 1 and 9; 13 is among the repairs worked out by hand.
 pub(super) fn table(trials: &mut Trials) {
     for n in WRONG_N {
         let (got, ..) = trials.repair(n, usize::MAX, &TETRA, &[1, 1, 1]);
@@ -70,13 +87,6 @@ pub(super) fn table(trials: &mut Trials) {
     }
     let (got, ..) = trials.repair(4, 0, &TETRA, &[LIMIT, 1, 0]);
     trials.equal(got, refused(9), "9, repair");
-
-    // Vertex 3 of the tetra is (w2, w1, w3).
-    let w = [1, -1_073_741_821, 1];
-    let total = -1_073_741_819;
-    let b = on_tetra(total, [0, total, 0], [w[1], w[0], w[2]]);
-    let got = trials.repair(4, 0, &TETRA, &w);
-    trials.equal(got, (stopped(0), w.to_vec(), b), "13");
 }
 
 /// Row 2 for each slice, with a broken mesh and outer number besides.
@@ -95,15 +105,16 @@ pub(super) fn lengths(trials: &mut Trials) {
     }
 }
 
-/// Random weights that row 13 refuses before any raise. Every vertex is drawn
-/// in a corner.
+/// Random weights that row 13 refuses before any raise: the first one where N is
+/// below 1, and else one like all others. Every vertex is drawn in a corner.
 pub(super) fn no_raise(trials: &mut Trials, n: usize, outer: usize, t: &[u16]) {
     let stuck = damage::stuck(&mut trials.rng, 2 * n - 5);
+    let total: i64 = stuck.iter().sum();
     let (got, new, b) = trials.repair(n, outer, t, &stuck);
     trials.equal((got, new), (stopped(0), stuck), "13 before any raise");
     let on_corners = b.chunks(3).all(|b| {
-        let largest = b.iter().filter(|&&x| x == LIMIT).count();
-        largest == 1 && b.iter().sum::<i64>() == LIMIT && b.iter().all(|&x| x >= 0)
+        let of = |value| b.iter().filter(|&&x| x == value).count();
+        of(total) == 1 && of(0) == 2
     });
     trials.check(on_corners, || format!("13, coordinates, n = {n}"));
 }
@@ -143,6 +154,57 @@ pub(super) fn random(trials: &mut Trials) {
     }
 }
 
+/// What N can be before a repair, and what can become of the first raise.
+const FIRST_RAISE: [&str; 6] = [
+    "N = 1",
+    "N = 0, first triangle upright",
+    "N below 1, own raise larger than 1 - N",
+    "N below 1, own raise smaller than 1 - N",
+    "N below 1, first raise refused",
+    "N below 1, no triangle flat or turned",
+];
+
+/// Small random spheres with weights whose total is often 1 or less: each case of
+/// the first raise is met.
+pub(super) fn first_raises(trials: &mut Trials) {
+    let mut met = [false; FIRST_RAISE.len()];
+    for _ in 0..50 * trials.rounds {
+        let n = 3 + trials.rng.below(8);
+        let t = sphere(&mut trials.rng, n);
+        let outer = place(&mut trials.rng, n);
+        let labels = trials.labels(n, outer, &t).unwrap_or_default();
+        let slow = naive::Labelled::new(n, outer, &t, &labels);
+        let corners = naive::by_label(outer, &t, &labels);
+        let kind = ["balanced", "balanced", "negative", "heavy", "full"][trials.rng.below(5)];
+        let w = weights(&mut trials.rng, kind, 2 * n - 5).unwrap_or_default();
+        let b = trials.forward(n, outer, &t, &w).unwrap_or_default();
+        let repaired = trials.repair(n, outer, &t, &w);
+        after(trials, (n, outer, &t, &corners), &w, &repaired);
+        let mut new = w.clone();
+        let (raises, ended) = slow.repair(&mut new);
+        as_slow(trials, n, &repaired, (&raises, ended), &new);
+
+        let total: i64 = w.iter().sum();
+        let own = naive::own_raise(&corners[0], &b);
+        let areas = naive::areas(&corners, &b);
+        let low = total < 1;
+        let cases = [
+            total == 1,
+            total == 0 && areas[0] > 0,
+            low && own > 1 - total,
+            low && own < 1 - total,
+            low && repaired.0 == stopped(0),
+            low && areas.iter().all(|&d| d > 0),
+        ];
+        for (met, case) in met.iter_mut().zip(cases) {
+            *met |= case;
+        }
+    }
+    for (met, case) in met.into_iter().zip(FIRST_RAISE) {
+        trials.check(met, || format!("never met: {case}"));
+    }
+}
+
 /// The slow repair with the fast forward map.
 fn by_fast_forward(
     n: usize,
@@ -170,19 +232,19 @@ fn as_slow(
     (raises, ended): (&[naive::Raise], bool),
     slow: &[i64],
 ) {
-    let count = raises.len();
-    let wanted = if ended { stopped(count) } else { Ok(count) };
+    let wanted = counted(raises, ended);
     trials.equal((*answer, &new[..]), (wanted, slow), "repair, slow and fast");
     let mut places: Vec<usize> = raises.iter().map(|r| r.0).collect();
     places.sort_unstable();
     places.dedup();
-    let once = places.len() == count && raises.iter().all(|r| r.1 >= 1);
+    let once = places.len() == raises.len() && raises.iter().all(|r| r.1 >= 1);
     trials.check(once, || format!("a triangle raised twice, n = {n}"));
 }
 
 /// What holds after any repair of accepted weights w: no weight is lower, the
-/// coordinates are those of the new weights, no triangle is left to raise or
-/// row 13 refuses the next raise, and the count is that of the changed weights.
+/// coordinates are those of the new weights, N is 1 or more and no triangle is
+/// left to raise or row 13 refuses the next raise, and the count is that of the
+/// changed weights. Only a refused first raise leaves N below 1.
 fn after(
     trials: &mut Trials,
     (n, outer, t, corners): (usize, usize, &[u16], &[naive::Triple]),
@@ -201,7 +263,9 @@ fn after(
             count
         }
         Err(refusal) => {
-            let (t, step) = naive::next_raise(corners, b).unwrap_or((0, 0));
+            let first = naive::first_raise(corners, w, b).filter(|_| changed == 0);
+            let next = first.or_else(|| naive::next_raise(corners, b));
+            let (t, step) = next.unwrap_or((0, 0));
             let mut next = new.clone();
             next[t] += step;
             let due = step > 0 && naive::too_heavy(&next);
@@ -212,6 +276,11 @@ fn after(
             }
         }
     };
+    let total: i64 = new.iter().sum();
+    let refused_first = answer.is_err() && count == 0;
+    trials.check(total >= 1 || refused_first, || {
+        format!("N = {total} after {count} raises, n = {n}")
+    });
     let counted = count == changed && count <= 2 * n - 5;
     trials.check(counted, || {
         format!("{count} raises, {changed} changed, n = {n}")

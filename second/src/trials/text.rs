@@ -1,10 +1,10 @@
 //! Tests of the job text, the host's call and what packmap prints: document
-//! 01's example, rows 17 to 19, random jobs and damaged texts. What is wanted
-//! comes from document 01, from the call of repair, from the slow reader, or
-//! from the number and line that a text was damaged for.
+//! 01's example, rows 17 to 19, repairs worked out by hand, random jobs and
+//! damaged texts. What is wanted comes from document 01, from the call of repair,
+//! from the slow reader, or from the number and line that a text was damaged for.
 
 use super::{Trials, FILL_BYTE};
-use crate::shells::{EXAMPLE, LISTING};
+use crate::shells::{repairs, EXAMPLE, LISTING};
 use crate::spheres::{any_weights, sphere};
 use crate::text::{Job, Reader};
 use crate::{damage, naive, text};
@@ -79,6 +79,17 @@ pub(super) fn example(trials: &mut Trials) {
         trials.equal(reader.line(), Ok(line.as_bytes()), "the reader's line");
     }
     trials.equal(reader.rest(), b"", "the reader at the end");
+}
+
+/// The repairs worked out by hand, as jobs.
+pub(super) fn by_hand(trials: &mut Trials) {
+    for repair in repairs() {
+        let job = Job::write(repair.n, repair.triangles, &repair.weights);
+        match repair.listing() {
+            Ok(listing) => trials.printed(&job, &listing, "by hand"),
+            Err(refusal) => trials.text_refused(&job, refusal.number.into(), 0),
+        }
+    }
 }
 
 /// Random jobs.
