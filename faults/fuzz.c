@@ -1,7 +1,7 @@
 /* The host's call against the second program, for libFuzzer: numbers and every byte of the listing buffer have to be
  * equal, with text and listing at guard pages. Where the text has a mesh and weights, so have the numbers and buffers
- * of the calls on them, with an outer number that comes from the text. Mutations know the job text, its lines and its
- * fields. */
+ * of the calls on them, with an outer number and high weights that come from the text. Mutations know the job text, its
+ * lines and its fields. */
 #include "lent.h"
 #include "packmap.h"
 
@@ -14,6 +14,8 @@ uint64_t second_job(const uint8_t *text, size_t text_len, uint8_t *listing, size
 uint64_t second_mesh_check(MESH, SCRATCH);
 uint64_t second_labels(MESH, uint8_t *labels, size_t labels_len, SCRATCH);
 uint64_t second_forward(MESH, const int64_t *weights, size_t weights_len, int64_t *b, size_t b_len, SCRATCH);
+uint64_t second_forward_range(MESH, const int64_t *lows, size_t lows_len, const int64_t *highs, size_t highs_len,
+                              int64_t *low, size_t low_len, int64_t *high, size_t high_len, SCRATCH);
 uint64_t second_backward(MESH, const int64_t *b, size_t b_len, int64_t *weights, size_t weights_len, SCRATCH);
 uint64_t second_repair(MESH, int64_t *weights, size_t weights_len, int64_t *b, size_t b_len, SCRATCH);
 size_t LLVMFuzzerMutate(uint8_t *data, size_t size, size_t most);
@@ -21,7 +23,7 @@ size_t LLVMFuzzerMutate(uint8_t *data, size_t size, size_t most);
 /* --- One text --- */
 
 /* How often each number was answered to a text, 0 for a listing, and by the calls on a mesh. */
-static unsigned long met[26], met_by_calls[26];
+static unsigned long met[30], met_by_calls[30];
 
 /* What libFuzzer takes for coverage too: each number, and how many raises, by their digits; behind them each number of
  * the calls on a mesh. */
@@ -82,14 +84,25 @@ static bool read_job(const uint8_t *data, size_t size, struct job *job) {
 
 /* --- The calls on the mesh of a text --- */
 
-enum call { CHECK, LABELS, FORWARD, BACKWARD, REPAIR };
-enum part { TRIANGLE_PART, LABEL_PART, WEIGHT_PART, COORDINATE_PART, SCRATCH_PART, CARRIED_PART, PARTS };
+enum call { CHECK, LABELS, FORWARD, BACKWARD, RANGE, REPAIR };
+enum part {
+    TRIANGLE_PART,
+    LABEL_PART,
+    WEIGHT_PART,
+    HIGH_WEIGHT_PART,
+    COORDINATE_PART,
+    HIGH_COORDINATE_PART,
+    SCRATCH_PART,
+    CARRIED_PART,
+    PARTS
+};
 
 /* Room for each slice of the largest job. */
 struct buffers {
     uint16_t triangles[PACKMAP_TRIANGLES(VERTICES)];
     uint8_t labels[PACKMAP_LABELS(VERTICES)];
-    int64_t weights[PACKMAP_WEIGHTS(VERTICES)], coordinates[PACKMAP_COORDINATES(VERTICES)];
+    int64_t weights[PACKMAP_WEIGHTS(VERTICES)], highs[PACKMAP_WEIGHTS(VERTICES)];
+    int64_t coordinates[PACKMAP_COORDINATES(VERTICES)], high_coordinates[PACKMAP_COORDINATES(VERTICES)];
     int64_t scratch[PACKMAP_SCRATCH(VERTICES)];
     uint64_t carried;
 };
@@ -100,10 +113,12 @@ struct slices {
 };
 
 static struct slices slices(struct buffers *b, size_t n) {
-    return (struct slices){{b->triangles, b->labels, b->weights, b->coordinates, b->scratch, &b->carried},
-                           {PACKMAP_TRIANGLES(n) * sizeof *b->triangles, PACKMAP_LABELS(n) * sizeof *b->labels,
-                            PACKMAP_WEIGHTS(n) * sizeof *b->weights, PACKMAP_COORDINATES(n) * sizeof *b->coordinates,
-                            PACKMAP_SCRATCH(n) * sizeof *b->scratch, sizeof b->carried}};
+    const size_t weights = PACKMAP_WEIGHTS(n) * sizeof *b->weights;
+    const size_t coordinates = PACKMAP_COORDINATES(n) * sizeof *b->coordinates;
+    return (struct slices){
+        {b->triangles, b->labels, b->weights, b->highs, b->coordinates, b->high_coordinates, b->scratch, &b->carried},
+        {PACKMAP_TRIANGLES(n) * sizeof *b->triangles, PACKMAP_LABELS(n) * sizeof *b->labels, weights, weights,
+         coordinates, coordinates, PACKMAP_SCRATCH(n) * sizeof *b->scratch, sizeof b->carried}};
 }
 
 /* A call of the proved ones or of the second program's. */
@@ -120,6 +135,10 @@ static uint64_t make(bool proved, enum call call, size_t n, size_t outer, const 
                                                          GIVEN_SCRATCH);
     case FORWARD:
         return (proved ? packmap_forward : second_forward)(GIVEN_MESH, GIVEN_WEIGHTS, GIVEN_COORDINATES, GIVEN_SCRATCH);
+    case RANGE:
+        return (proved ? packmap_forward_range : second_forward_range)(
+            GIVEN_MESH, GIVEN_WEIGHTS, s->at[HIGH_WEIGHT_PART], PACKMAP_WEIGHTS(n), GIVEN_COORDINATES,
+            s->at[HIGH_COORDINATE_PART], PACKMAP_COORDINATES(n), GIVEN_SCRATCH);
     case BACKWARD:
         return (proved ? packmap_backward : second_backward)(GIVEN_MESH, GIVEN_COORDINATES, GIVEN_WEIGHTS,
                                                              GIVEN_SCRATCH);
@@ -183,6 +202,17 @@ static void bend(uint64_t random, size_t n, int64_t *b) {
         *at = PACKMAP_LIMIT + 1;
 }
 
+/* Highs 0 to 3 above the weights; at times one is below its weight, so that 29 refuses it, or so large that 9 does. */
+static void raise_highs(uint64_t random, size_t n, const int64_t *weights, int64_t *highs) {
+    const size_t count = PACKMAP_WEIGHTS(n), at = random / 4 % count;
+    for (size_t k = 0; k < count; k++)
+        highs[k] = weights[k] + (int64_t)((random >> k % 32) % 4);
+    if (random % 4 == 0)
+        highs[at] = weights[at] - 1;
+    if (random % 4 == 1)
+        highs[at] = INT64_MAX - (int64_t)(random % 64);
+}
+
 static void compare_calls(const struct job *job, uint64_t random) {
     static struct buffers start, b;
     const size_t n = job->n, outer = outer_number(random, n);
@@ -191,6 +221,7 @@ static void compare_calls(const struct job *job, uint64_t random) {
         start.triangles[k] = (uint16_t)job->triangle[k / 3][k % 3];
     for (size_t k = 0; k < PACKMAP_WEIGHTS(n); k++)
         start.weights[k] = job->weight[k];
+    raise_highs(random >> 24, n, start.weights, start.highs);
     for (enum call call = CHECK; call <= REPAIR; call++) {
         if (call != BACKWARD)
             b = start;
@@ -222,7 +253,7 @@ static void tell_met(const unsigned long *met, const int *numbers, size_t count)
 
 static void tell(void) {
     static const int numbers[] = {1, 3, 4, 5, 6, 7, 25, 8, 9, 13, 17, 18, 19};
-    static const int by_calls[] = {21, 3, 4, 5, 6, 7, 25, 8, 9, 10, 11, 12, 13};
+    static const int by_calls[] = {21, 29, 3, 4, 5, 6, 7, 25, 8, 9, 10, 11, 12, 13};
     fprintf(stderr, "listings: %lu; refusals:", met[0]);
     tell_met(met, numbers, sizeof numbers / sizeof *numbers);
     fprintf(stderr, "calls on a mesh: done: %lu; refusals:", met_by_calls[0]);

@@ -1,11 +1,12 @@
-/* The six public calls on buffers that end, or begin, at a guard page: document 01's shells, every row of the table
- * that a call can meet, and stacks of up to 4,096 vertices. What is due comes from the papers (see shells.h), never
- * from a program. A call on a mesh is made with the outer triangle in front, and with the same triangle at other
+/* The seven public calls on slices, on buffers that end, or begin, at a guard page: document 01's shells, every row of
+ * the table that a call can meet, and stacks of up to 4,096 vertices. What is due comes from the papers (see shells.h),
+ * never from a program. A call on a mesh is made with the outer triangle in front, and with the same triangle at other
  * places, where the same is due.
  *
  * Each trial is made with the exact lengths and with every length one less, one more and 0: on small meshes all
- * combinations of one less, exact and one more. After each call the answer, every byte of every buffer and the bytes
- * around it have to be what is due. The last line is 'N passed, M failed', counted in trials. */
+ * combinations of one less, exact and one more, but no more than two changes of the range's six lengths. After each
+ * call the answer, every byte of every buffer and the bytes around it have to be what is due. The last line is
+ * 'N passed, M failed', counted in trials. */
 #include <float.h>
 #include <math.h>
 
@@ -78,6 +79,11 @@ static uint64_t make_forward(const struct trial *t, const struct lent *lent, con
     return packmap_forward(t->n, t->outer, PART(0), PART(1), PART(2), PART(3), (void *)lent[4].at);
 }
 
+static uint64_t make_range(const struct trial *t, const struct lent *lent, const size_t *len) {
+    return packmap_forward_range(t->n, t->outer, PART(0), PART(1), PART(2), PART(3), PART(4), PART(5),
+                                 (void *)lent[6].at);
+}
+
 static uint64_t make_backward(const struct trial *t, const struct lent *lent, const size_t *len) {
     return packmap_backward(t->n, t->outer, PART(0), PART(1), PART(2), PART(3), (void *)lent[4].at);
 }
@@ -99,6 +105,16 @@ static const struct call FORWARD = {
     make_forward,
     5,
     {{TRIANGLES, READ}, {WEIGHTS, READ}, {COORDINATES, WRITTEN}, {SCRATCH, WRITTEN}, {ONE, WRITTEN}}};
+static const struct call RANGE = {"packmap_forward_range",
+                                  make_range,
+                                  7,
+                                  {{TRIANGLES, READ},
+                                   {WEIGHTS, READ},
+                                   {WEIGHTS, READ},
+                                   {COORDINATES, WRITTEN},
+                                   {COORDINATES, WRITTEN},
+                                   {SCRATCH, WRITTEN},
+                                   {ONE, WRITTEN}}};
 static const struct call BACKWARD = {
     "packmap_backward",
     make_backward,
@@ -215,13 +231,21 @@ static bool next_change(const struct call *call, enum change *change) {
     return false;
 }
 
+/* Whether these changes are tried together. */
+static bool tried(const struct call *call, const enum change *change) {
+    int count = 0;
+    for (int i = 0; i < call->parts; i++)
+        count += change[i] != AS_DUE;
+    return call != &RANGE || count <= 2;
+}
+
 static void run(const struct trial *t) {
     bool good = true;
     for (enum side side = ENDS; side <= BEGINS; side++) {
         enum change change[PLACES] = {AS_DUE};
         bool small = t->sized <= 16;
         do
-            good &= once(t, side, change);
+            good &= !tried(t->call, change) || once(t, side, change);
         while (small && next_change(t->call, change));
         for (int i = 0; i < t->call->parts; i++) {
             enum kind kind = t->call->part[i].kind;
@@ -306,6 +330,13 @@ static void forward(struct mesh m, const int64_t *weights, uint64_t number, cons
     run_at_places(&t);
 }
 
+static void range(struct mesh m, const int64_t *lows, const int64_t *highs, uint64_t number, const int64_t *low,
+                  const int64_t *high) {
+    struct trial t = on(&m, &RANGE, number);
+    t.before[1] = lows, t.before[2] = highs, t.after[3] = low, t.after[4] = high;
+    run_at_places(&t);
+}
+
 static void backward(struct mesh m, const int64_t *coordinates, uint64_t number, const int64_t *weights) {
     struct trial t = on(&m, &BACKWARD, number);
     t.before[1] = coordinates, t.after[2] = weights;
@@ -322,14 +353,19 @@ static void repair(struct mesh m, const int64_t *weights, uint64_t number, uint6
     run_at_places(&t);
 }
 
-/* A mesh that all five calls refuse with one number, whatever else they are given. */
+/* A mesh that all six calls refuse with one number, whatever else they are given; but 29 is asked after 1, 2 and 21 and
+ * before the rows of the mesh. */
 static void refused(struct mesh m, uint64_t number) {
-    static int64_t worst[3 * MOST];
+    static int64_t worst[3 * MOST], lows[WEIGHTS_MOST];
     for (size_t k = 0; k < 3 * MOST; k++)
         worst[k] = INT64_MIN;
+    memcpy(lows, worst, sizeof lows);
+    lows[2 * m.sized - 6]++;
     check(m, number);
     label(m, number, NULL);
     forward(m, worst, number, NULL);
+    range(m, worst, worst, number, NULL, NULL);
+    range(m, lows, worst, number == 1 || number == 2 || number == 21 ? number : 29, NULL, NULL);
     backward(m, worst, number, NULL);
     repair(m, worst, number, 0, NULL, NULL);
 }
@@ -367,6 +403,12 @@ static void checked_shells(void) {
         const struct repaired *r = &REPAIRED[k];
         repair(fitting("repair by hand", r->n, r->triangles), r->weights, r->number, r->count, r->raised,
                r->coordinates);
+    }
+    for (size_t k = 0; k < RANGED_COUNT; k++) {
+        const struct ranged *r = &RANGED[k];
+        const bool written = r->number == 0;
+        range(fitting("ranges by hand", r->n, r->triangles), r->lows, r->highs, r->number, written ? r->low : NULL,
+              written ? r->high : NULL);
     }
     /* Opened at (0, 1, 3), v0 is 0, v2 is 1 and v1 is 3. The first triangle is on v0 v2, the second on v0 v1. */
     const struct mesh other = opened_at(3, tetra);
@@ -433,6 +475,7 @@ static void stacks(size_t n) {
     static uint16_t triangles[CORNERS];
     static uint8_t labels[CORNERS];
     static int64_t weights[WEIGHTS_MOST], raised[WEIGHTS_MOST], coordinates[3 * MOST];
+    static int64_t highs[WEIGHTS_MOST], high[3 * MOST];
     const struct mesh m = fitting("stack", n, triangles);
     const size_t inner = 2 * n - 5;
 
@@ -451,10 +494,20 @@ static void stacks(size_t n) {
         weights[t] = t % 2 == 0 ? 1 + (int64_t)t % 7 : -1 - (int64_t)t % 5;
     stack_coordinates(n, weights, coordinates);
     both_ways(m, weights, coordinates);
+    for (size_t t = 0; t < inner; t++)
+        highs[t] = weights[t] + (int64_t)t % 4;
+    stack_coordinates(n, highs, high);
+    range(m, weights, highs, 0, coordinates, high);
+    highs[inner / 2] = weights[inner / 2] - 1;
+    range(m, weights, highs, 29, NULL, NULL);
+    highs[inner / 2] = INT64_MAX;
+    range(m, weights, highs, 9, NULL, NULL);
     coordinates[3 * n - 1]++;
     backward(m, coordinates, 12, NULL);
+    memcpy(highs, weights, sizeof highs);
     weights[inner - 1] = INT64_MIN;
     forward(m, weights, 9, NULL);
+    range(m, weights, highs, 9, NULL, NULL);
     repair(m, weights, 9, 0, NULL, NULL);
 
     for (size_t t = 0; t < inner; t++)

@@ -11,7 +11,7 @@
 #include <string.h>
 #include <sys/mman.h>
 
-enum { PLACES = 6, PAGE = 4096, ROOM = 200 * PAGE }; /* room for 24 words for each of 4,096 vertices, and more */
+enum { PLACES = 8, PAGE = 4096, ROOM = 200 * PAGE }; /* room for 24 words for each of 4,096 vertices, and more */
 enum side { ENDS, BEGINS };                          /* which end of the buffer is at a guard page */
 
 struct lent {

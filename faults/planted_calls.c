@@ -1,4 +1,4 @@
-/* Faults planted in the six calls. */
+/* Faults planted in the calls on slices. */
 #include "planted.h"
 
 #include "packmap.h"
@@ -66,6 +66,66 @@ uint64_t __wrap_packmap_forward(MESH, const int64_t *weights, size_t weights_len
     return number;
 }
 
+#define RANGES const int64_t *lows, size_t lows_len, const int64_t *highs, size_t highs_len
+#define ENDS int64_t *low, size_t low_len, int64_t *high, size_t high_len
+#define GIVEN_RANGES lows, lows_len, highs, highs_len
+
+/* Whether 9 refuses a list. */
+static bool heavy(const int64_t *weights, size_t weights_len) {
+    uint64_t sum = 0;
+    for (size_t k = 0; k < weights_len && sum <= PACKMAP_LIMIT; k++)
+        sum += weights[k] < 0 ? -(uint64_t)weights[k] : (uint64_t)weights[k];
+    return sum > PACKMAP_LIMIT;
+}
+
+/* Whether 29 refuses ranges, with a fault. */
+static bool crossed(RANGES) {
+    const bool by_difference = planted("asks 29 by a difference that overflows"),
+               equal_too = planted("refuses equal ends with 29");
+    const size_t first = planted("asks 29 of the last triangle alone") ? lows_len - 1 : 0;
+    const size_t end = planted("asks 29 of the first triangle alone") ? 1 : highs_len;
+    for (size_t k = first; k < end; k++) {
+        const int64_t difference = (int64_t)((uint64_t)lows[k] - (uint64_t)highs[k]);
+        if (by_difference ? difference > 0 : equal_too ? lows[k] >= highs[k] : lows[k] > highs[k])
+            return true;
+    }
+    return false;
+}
+
+uint64_t __real_packmap_forward_range(MESH, RANGES, ENDS, SCRATCH);
+uint64_t __wrap_packmap_forward_range(MESH, RANGES, ENDS, SCRATCH) {
+    int64_t held = planted("keeps a word of scratch on 29") && scratch_len > 0 ? *scratch : 0;
+    if (planted("exchanges the ends")) {
+        int64_t *end = low;
+        low = high, high = end;
+    }
+    uint64_t number =
+        __real_packmap_forward_range(GIVEN_MESH, GIVEN_RANGES, low, low_len, high, high_len, GIVEN_SCRATCH);
+    if (number == 1 || number == 2)
+        return number;
+    if (planted("asks 29 before 21") && number == 21 && crossed(GIVEN_RANGES))
+        return 29;
+    if (planted("asks 29 after 3") && number == 29 && __real_packmap_mesh_check(GIVEN_MESH, GIVEN_SCRATCH) == 3)
+        return 3;
+    if (planted("asks 29 after 9") && number == 29 && (heavy(lows, lows_len) || heavy(highs, highs_len)))
+        return 9;
+    if (number == 29 && !crossed(GIVEN_RANGES))
+        return __real_packmap_mesh_check(GIVEN_MESH, GIVEN_SCRATCH);
+    if ((number == 0 || number == 9) && crossed(GIVEN_RANGES))
+        return 29;
+    if (planted("asks 9 of the lows alone") && number == 9 && !heavy(lows, lows_len))
+        return 0;
+    if (planted("asks 9 of the highs alone") && number == 9 && !heavy(highs, highs_len))
+        return 0;
+    if (planted("writes the high coordinates although refused") && number == 9)
+        memset(high, 0, high_len * sizeof *high);
+    if (planted("writes the low coordinates twice") && number == 0)
+        memcpy(high, low, high_len * sizeof *high);
+    if (planted("keeps a word of scratch on 29") && number == 29)
+        *scratch = held;
+    return number;
+}
+
 uint64_t __real_packmap_backward(MESH, const int64_t *b, size_t b_len, int64_t *weights, size_t weights_len, SCRATCH);
 uint64_t __wrap_packmap_backward(MESH, const int64_t *b, size_t b_len, int64_t *weights, size_t weights_len, SCRATCH) {
     uint64_t held = *carried;
@@ -110,11 +170,8 @@ static bool flat_or_turned(size_t t, const int64_t *b) {
 
 /* Raises a weight and counts it; false if the weights would be too large, and nothing is done. */
 static bool raised(int64_t *weights, size_t weights_len, size_t t, int64_t raise, uint64_t *count) {
-    int64_t sum = 0;
     weights[t] += raise;
-    for (size_t k = 0; k < weights_len; k++)
-        sum += weights[k] < 0 ? -weights[k] : weights[k];
-    if (sum > PACKMAP_LIMIT) {
+    if (heavy(weights, weights_len)) {
         weights[t] -= raise;
         return false;
     }

@@ -1,5 +1,5 @@
-/* Meshes whose answers are known from the papers without a program: document 01's shells, repairs worked out by hand,
- * and a stack of any size.
+/* Meshes whose answers are known from the papers without a program: document 01's shells, repairs and ranges worked out
+ * by hand, and a stack of any size.
  *
  * The stack: vertex 2 on top, 3 to n - 1 below it in turn, all joined to 0 and 1. Its inner triangles, in order, are
  * for each k from 3 to n - 1 a left one (0, k, k - 1) and a right one (k, 1, k - 1), then the last, (0, 1, n - 1).
@@ -72,6 +72,47 @@ static const struct repaired {
      {-H - 1, 0, 0, 0, -H - 1, 0, 0, 0, -H - 1, 0, -H - 1, 0, 0, -H - 1, 0}},
 };
 enum { REPAIRED_COUNT = sizeof REPAIRED / sizeof *REPAIRED };
+
+/* Ranges worked out by hand, on the same meshes: the low coordinates are those of the lows, the high ones those of the
+ * highs. */
+static const struct ranged {
+    size_t n;
+    const uint16_t *triangles;
+    int64_t lows[5], highs[5];
+    uint64_t number;
+    int64_t low[15], high[15];
+} RANGED[] = {
+    {3, PAIR, {2}, {7}, 0, {2, 0, 0, 0, 2, 0, 0, 0, 2}, {7, 0, 0, 0, 7, 0, 0, 0, 7}},
+    {3, PAIR, {-7}, {-7}, 0, {-7, 0, 0, 0, -7, 0, 0, 0, -7}, {-7, 0, 0, 0, -7, 0, 0, 0, -7}},
+    {3, PAIR, {-L}, {L}, 0, {-L, 0, 0, 0, -L, 0, 0, 0, -L}, {L, 0, 0, 0, L, 0, 0, 0, L}},
+    {4, TETRA, {4, 3, 1}, {6, 3, 2}, 0, {8, 0, 0, 0, 8, 0, 0, 0, 8, 3, 4, 1}, {11, 0, 0, 0, 11, 0, 0, 0, 11, 3, 6, 2}},
+    {4,
+     TETRA,
+     {-1, -1, -1},
+     {1, 1, 1},
+     0,
+     {-3, 0, 0, 0, -3, 0, 0, 0, -3, -1, -1, -1},
+     {3, 0, 0, 0, 3, 0, 0, 0, 3, 1, 1, 1}},
+    {5,
+     INSIDE,
+     {1, 2, 3, 4, 5},
+     {6, 2, 9, 5, 7},
+     0,
+     {15, 0, 0, 0, 15, 0, 0, 0, 15, 3, 2, 10, 4, 7, 4},
+     {29, 0, 0, 0, 29, 0, 0, 0, 29, 9, 2, 18, 15, 9, 5}},
+    /* a low above its high in the first triangle alone, in the second, in the last; and 29 is asked before 9 */
+    {4, TETRA, {1, 0, 0}, {0, 0, 0}, 29, {0}, {0}},
+    {4, TETRA, {0, 0, 0}, {1, -1, 1}, 29, {0}, {0}},
+    {4, TETRA, {5, 5, 6}, {5, 5, 5}, 29, {0}, {0}},
+    {4, TETRA, {L, 1, 0}, {L, 0, 1}, 29, {0}, {0}},
+    {3, PAIR, {INT64_MAX}, {INT64_MIN}, 29, {0}, {0}},
+    /* 9 by the lows alone, by the highs alone, by both */
+    {4, TETRA, {-L, -1, 0}, {0, 0, 0}, 9, {0}, {0}},
+    {4, TETRA, {0, 0, 0}, {L, 0, 1}, 9, {0}, {0}},
+    {3, PAIR, {INT64_MIN}, {INT64_MAX}, 9, {0}, {0}},
+    {3, PAIR, {INT64_MIN}, {INT64_MIN}, 9, {0}, {0}},
+};
+enum { RANGED_COUNT = sizeof RANGED / sizeof *RANGED };
 
 /* The examples of rows 3 to 8, and of 25 the torus of row 8 on the vertices 0 to 6 of n = 9. Of 7 and 25 the vertex is
  * due too: 3, the lower one of the tips, and 7, the lower one of those in no triangle. */

@@ -15,7 +15,7 @@
 
 enum { CALLS = 1000000, WARM = 10000, SMALL = 16, LISTING = 64 };
 enum outer { ANY, FIRST, BEHIND, FAR }; /* any place at all; the first; the one behind the last; the largest number */
-enum call { CHECK, LABELS, FORWARD, BACKWARD, REPAIR, SNAP, JOB };
+enum call { CHECK, LABELS, FORWARD, RANGE, BACKWARD, REPAIR, SNAP, JOB };
 
 #define TETRA_TEXT "pack-map\t4\nt\t0\t2\t1\nt\t0\t3\t2\nt\t3\t1\t2\nt\t0\t1\t3\n"
 
@@ -34,7 +34,8 @@ static const struct step {
     size_t n;
     const uint16_t *triangles;
     enum outer outer;
-    int64_t numbers[12]; /* weights or coordinates, 0 from there on */
+    int64_t numbers[12]; /* weights, lows or coordinates, 0 from there on */
+    int64_t highs[12];
     double shares[6];
     uint32_t scale;
     size_t cut; /* by how much scratch, coordinates of drawn points or listing are too short */
@@ -65,6 +66,14 @@ static const struct step {
     {FORWARD, 21, 4, .triangles = TETRA, .outer = BEHIND, .numbers = {L, 1, 0}},
     {FORWARD, 25, 9, .triangles = ROW25},
     {FORWARD, 9, 4, .triangles = TETRA, .numbers = {L, 1, 0}},
+    {RANGE, 0, 4, .triangles = TETRA, .numbers = {4, 3, 1}, .highs = {6, 3, 2}},
+    {RANGE, 0, SMALL, .triangles = pile, .numbers = {-5, 3}, .highs = {5, 3, 2}},
+    {RANGE, 21, 4, .triangles = TETRA, .outer = BEHIND, .numbers = {1}},
+    {RANGE, 29, 4, .triangles = TETRA, .numbers = {0, 0, 1}},
+    {RANGE, 29, 3, .triangles = ROW3, .numbers = {1}},
+    {RANGE, 25, 9, .triangles = ROW25},
+    {RANGE, 9, 4, .triangles = TETRA, .numbers = {-L, -1, 0}},
+    {RANGE, 9, 4, .triangles = TETRA, .highs = {L, 1, 0}},
     {BACKWARD, 0, 4, .triangles = TETRA, .outer = FIRST, .numbers = {10, 0, 0, 0, 10, 0, 0, 0, 10, 3, 5, 2}},
     {BACKWARD, 21, 4, .triangles = TETRA, .outer = FAR, .numbers = {9, 0, 0, 1, 8, 0, 0, 0, 9, 3, 5, 1}},
     {BACKWARD, 9, 4, .triangles = TETRA, .outer = FIRST, .numbers = {1, 0, 0, 0, 1, 0, 0, 0, 1, L, -L, 1}},
@@ -115,6 +124,7 @@ static size_t outer_of(const struct step *s, uint32_t random) {
 
 static uint64_t make(const struct step *s, uint32_t random) {
     static int64_t scratch[10 * SMALL], weights[2 * SMALL - 5], coordinates[3 * SMALL];
+    static int64_t highs[2 * SMALL - 5], high[3 * SMALL];
     static uint8_t labels[3 * (2 * SMALL - 5)], listing[LISTING];
     uint64_t carried;
     double outside;
@@ -129,6 +139,13 @@ static uint64_t make(const struct step *s, uint32_t random) {
         memset(weights, 0, sizeof weights);
         memcpy(weights, s->numbers, sizeof s->numbers);
         return packmap_forward(n, outer, s->triangles, t, weights, w, coordinates, b, scratch, left, &carried);
+    case RANGE:
+        memset(weights, 0, sizeof weights);
+        memcpy(weights, s->numbers, sizeof s->numbers);
+        memset(highs, 0, sizeof highs);
+        memcpy(highs, s->highs, sizeof s->highs);
+        return packmap_forward_range(n, outer, s->triangles, t, weights, w, highs, w, coordinates, b, high, b, scratch,
+                                     left, &carried);
     case BACKWARD:
         return packmap_backward(n, outer, s->triangles, t, s->numbers, b, weights, w, scratch, left, &carried);
     case REPAIR:

@@ -15,6 +15,7 @@ static uint8_t room[ROOM] __attribute__((aligned(16)));
 static uint16_t triangles[CORNERS];
 static uint8_t labels[PACKMAP_LABELS(N)], text[PACKMAP_BYTES], listing[PACKMAP_BYTES];
 static int64_t weights[WEIGHTS_MOST], coordinates[PACKMAP_COORDINATES(N)], scratch[PACKMAP_SCRATCH(N)];
+static int64_t high_coordinates[PACKMAP_COORDINATES(N)];
 static double shares[PACKMAP_SHARES(N)];
 static size_t text_len;
 static uint64_t answer, carried;
@@ -30,6 +31,12 @@ static void label(void) {
 static void forward(void) {
     answer = packmap_forward(N, OUTER, triangles, CORNERS, weights, WEIGHTS_MOST, coordinates, PACKMAP_COORDINATES(N),
                              scratch, PACKMAP_SCRATCH(N), &carried);
+}
+
+static void range(void) {
+    answer = packmap_forward_range(N, OUTER, triangles, CORNERS, weights, WEIGHTS_MOST, weights, WEIGHTS_MOST,
+                                   coordinates, PACKMAP_COORDINATES(N), high_coordinates, PACKMAP_COORDINATES(N),
+                                   scratch, PACKMAP_SCRATCH(N), &carried);
 }
 
 static void backward(void) {
@@ -86,9 +93,10 @@ int main(void) {
         void (*make)(void);
         size_t most;
     } CALLS[] = {
-        {"mesh check", check, PACKMAP_STACK},  {"labels", label, PACKMAP_STACK},  {"forward", forward, PACKMAP_STACK},
-        {"backward", backward, PACKMAP_STACK}, {"repair", repair, PACKMAP_STACK}, {"snapping", snap, PACKMAP_STACK},
-        {"job", job, PACKMAP_JOB_STACK},
+        {"mesh check", check, PACKMAP_STACK},  {"labels", label, PACKMAP_STACK},
+        {"forward", forward, PACKMAP_STACK},   {"range", range, PACKMAP_STACK},
+        {"backward", backward, PACKMAP_STACK}, {"repair", repair, PACKMAP_STACK},
+        {"snapping", snap, PACKMAP_STACK},     {"job", job, PACKMAP_JOB_STACK},
     };
     unsigned passed = 0, failed = 0;
     write_job();

@@ -33,8 +33,8 @@ static void lengths(void) {
 
 static void words(void) {
     const uint64_t none = UINT64_MAX;
-    for (uint64_t k = 0; k <= 26; k++) {
-        int is_answer = k <= 19 || k == 21 || k == 25;
+    for (uint64_t k = 0; k <= 30; k++) {
+        int is_answer = k <= 19 || k == 21 || k == 25 || k == 29;
         HOLDS((strcmp(packmap_words(k), packmap_words(none)) != 0) == is_answer);
         for (uint64_t m = 0; m < k; m++)
             HOLDS(!is_answer || strcmp(packmap_words(k), packmap_words(m)) != 0);
@@ -42,6 +42,7 @@ static void words(void) {
     HOLDS(strcmp(packmap_words(PACKMAP_DONE), "done") == 0);
     HOLDS(PACKMAP_REFUSED_PIECES == 8 && PACKMAP_REFUSED_RAISE == 13 && PACKMAP_REFUSED_TEXT == 19);
     HOLDS(PACKMAP_REFUSED_RING == 7 && PACKMAP_REFUSED_STRAY == 25 && PACKMAP_REFUSED_OUTER_NUMBER == 21);
+    HOLDS(PACKMAP_REFUSED_RANGE == 29);
 }
 
 static void answers(void) {

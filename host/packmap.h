@@ -85,7 +85,8 @@ enum packmap_refusal {
     PACKMAP_REFUSED_LISTING = 18,
     PACKMAP_REFUSED_TEXT = 19,
     PACKMAP_REFUSED_OUTER_NUMBER = 21,
-    PACKMAP_REFUSED_STRAY = 25
+    PACKMAP_REFUSED_STRAY = 25,
+    PACKMAP_REFUSED_RANGE = 29
 };
 
 /* What a number says, in words; of a number that is none of these, "not an answer". */
@@ -135,6 +136,8 @@ static inline const char *packmap_words(uint64_t number) {
         return "the outer number is not below the number of triangles";
     case PACKMAP_REFUSED_STRAY:
         return "a vertex is in no triangle";
+    case PACKMAP_REFUSED_RANGE:
+        return "a low weight is above its high one";
     default:
         return "not an answer";
     }
@@ -155,6 +158,15 @@ uint64_t packmap_labels(size_t n, size_t outer, const uint16_t *triangles, size_
 uint64_t packmap_forward(size_t n, size_t outer, const uint16_t *triangles, size_t triangles_len,
                          const int64_t *weights, size_t weights_len, int64_t *coordinates, size_t coordinates_len,
                          int64_t *scratch, size_t scratch_len, uint64_t *carried);
+
+/* Writes the low and the high of each coordinate where each weight has a low and a high: 1, 2, 21, 29, 3 to 6, 7 or 25,
+ * 8, 9 of either list. They are the coordinates of the lows and those of the highs, so that both ends are reached, and
+ * no weights within the ranges give a coordinate that passes them. Where all lows are 1 or more, no weights within the
+ * ranges leave an inner triangle flat or turned. */
+uint64_t packmap_forward_range(size_t n, size_t outer, const uint16_t *triangles, size_t triangles_len,
+                               const int64_t *lows, size_t lows_len, const int64_t *highs, size_t highs_len,
+                               int64_t *low_coordinates, size_t low_coordinates_len, int64_t *high_coordinates,
+                               size_t high_coordinates_len, int64_t *scratch, size_t scratch_len, uint64_t *carried);
 
 /* Writes the weights of coordinates: 1, 2, 21, 3 to 6, 7 or 25, 8, 10, 11, 12, 9. */
 uint64_t packmap_backward(size_t n, size_t outer, const uint16_t *triangles, size_t triangles_len,

@@ -1,7 +1,7 @@
 /* Every call on lent slices, by the example of a shell of 1,000 vertices: two bad scans of it are refused, and it is
- * checked, labelled, mapped from weights to coordinates and back; it is opened at another triangle, by its number; a
- * drawing of it that is rotated by half a turn is repaired; then one that is bent in places is snapped to whole numbers
- * and repaired.
+ * checked, labelled, mapped from weights to coordinates and back; it is opened at another triangle, by its number; it
+ * is mapped with a low and a high for each weight; a drawing of it that is rotated by half a turn is repaired; then one
+ * that is bent in places is snapped to whole numbers and repaired.
  *
  *     cc -IFOLDER/include host/shell.c -LFOLDER/lib -lpackmap && ./a.out
  *
@@ -21,7 +21,9 @@ enum { TRIANGLE_COUNT = 2 * N - 4, FIRST = 0, LAST = TRIANGLE_COUNT - 1 }; /* pl
 static uint16_t triangles[PACKMAP_TRIANGLES(N)];
 static uint8_t labels[PACKMAP_LABELS(N)];
 static int64_t weights[PACKMAP_WEIGHTS(N)], again[PACKMAP_WEIGHTS(N)];
+static int64_t lows[PACKMAP_WEIGHTS(N)], highs[PACKMAP_WEIGHTS(N)];
 static int64_t coordinates[PACKMAP_COORDINATES(N)], redrawn[PACKMAP_COORDINATES(N)];
+static int64_t low_coordinates[PACKMAP_COORDINATES(N)], high_coordinates[PACKMAP_COORDINATES(N)];
 static double shares[PACKMAP_SHARES(N)];
 static int64_t scratch[PACKMAP_SCRATCH(N)];
 
@@ -123,6 +125,14 @@ static int labelled(void) {
     return 1;
 }
 
+/* Whether each coordinate is from its low to its high. */
+static int between(const int64_t *low, const int64_t *b, const int64_t *high) {
+    for (size_t k = 0; k < ITEMS(coordinates); k++)
+        if (b[k] < low[k] || high[k] < b[k])
+            return 0;
+    return 1;
+}
+
 int main(void) {
     uint64_t number, carried = 0;
     double outside = 0;
@@ -169,6 +179,31 @@ int main(void) {
     number = packmap_mesh_check(N, TRIANGLE_COUNT, triangles, ITEMS(triangles), scratch, ITEMS(scratch), &carried);
     holds("there is no triangle behind the last", number == PACKMAP_REFUSED_OUTER_NUMBER);
     make_shell();
+
+    /* areas were measured with a tolerance: weights of 3 to 9, each as a range from 2 below it to 1 above it */
+    for (size_t t = 0; t < ITEMS(weights); t++) {
+        weights[t] = 3 + (int64_t)(t % 7);
+        lows[t] = weights[t] - 2, highs[t] = weights[t] + 1;
+    }
+    done("range", packmap_forward_range(N, FIRST, triangles, ITEMS(triangles), lows, ITEMS(lows), highs, ITEMS(highs),
+                                        low_coordinates, ITEMS(low_coordinates), high_coordinates,
+                                        ITEMS(high_coordinates), scratch, ITEMS(scratch), &carried));
+    done("forward", packmap_forward(N, FIRST, triangles, ITEMS(triangles), weights, ITEMS(weights), coordinates,
+                                    ITEMS(coordinates), scratch, ITEMS(scratch), &carried));
+    holds("weights within the ranges: coordinates within theirs",
+          between(low_coordinates, coordinates, high_coordinates));
+    holds("lows of 1 or more: no triangle flat or turned", flat_or_turned(FIRST, low_coordinates) == 0 &&
+                                                               flat_or_turned(FIRST, coordinates) == 0 &&
+                                                               flat_or_turned(FIRST, high_coordinates) == 0);
+    done("forward", packmap_forward(N, FIRST, triangles, ITEMS(triangles), highs, ITEMS(highs), redrawn, ITEMS(redrawn),
+                                    scratch, ITEMS(scratch), &carried));
+    holds("the highs reach the high coordinates", memcmp(high_coordinates, redrawn, sizeof redrawn) == 0);
+    lows[0] = highs[0] + 1;
+    number = packmap_forward_range(N, FIRST, triangles, ITEMS(triangles), lows, ITEMS(lows), highs, ITEMS(highs),
+                                   low_coordinates, ITEMS(low_coordinates), high_coordinates, ITEMS(high_coordinates),
+                                   scratch, ITEMS(scratch), &carried);
+    holds("a low above its high is refused, and nothing is written",
+          number == PACKMAP_REFUSED_RANGE && memcmp(high_coordinates, redrawn, sizeof redrawn) == 0);
 
     /* weights of -1 draw it rotated by half a turn: their total, b0 of v0, is below 1; repair brings it to 1 or more */
     for (size_t t = 0; t < ITEMS(weights); t++)

@@ -40,6 +40,25 @@ extern "C" {
         carried: *mut u64,
     ) -> u64;
 
+    #[cfg(not(feature = "without-range"))]
+    fn earlier_packmap_forward_range(
+        n: usize,
+        outer: usize,
+        triangles: *const u16,
+        triangles_len: usize,
+        lows: *const i64,
+        lows_len: usize,
+        highs: *const i64,
+        highs_len: usize,
+        low_coordinates: *mut i64,
+        low_coordinates_len: usize,
+        high_coordinates: *mut i64,
+        high_coordinates_len: usize,
+        scratch: *mut i64,
+        scratch_len: usize,
+        carried: *mut u64,
+    ) -> u64;
+
     fn earlier_packmap_backward(
         n: usize,
         #[cfg(not(feature = "without-outer"))] outer: usize,
@@ -143,6 +162,24 @@ fn forward(l: &mut Lent) -> u64 {
     )
 }
 
+#[cfg(not(feature = "without-range"))]
+fn range(l: &mut Lent) -> u64 {
+    on_mesh!(
+        earlier_packmap_forward_range,
+        l,
+        l.weights.as_ptr(),
+        l.weights.len(),
+        l.highs.as_ptr(),
+        l.highs.len(),
+        l.coordinates.as_mut_ptr(),
+        l.coordinates.len(),
+        l.high_coordinates.as_mut_ptr(),
+        l.high_coordinates.len(),
+        l.scratch.as_mut_ptr(),
+        l.scratch.len()
+    )
+}
+
 fn backward(l: &mut Lent) -> u64 {
     on_mesh!(
         earlier_packmap_backward,
@@ -199,15 +236,18 @@ fn job(l: &mut Lent) -> u64 {
     }
 }
 
-pub fn call(name: &str) -> Call {
-    match name {
+/// A call, if the archive has it.
+pub fn call(name: &str) -> Option<Call> {
+    Some(match name {
         "check" => |_, l| check(l),
         "labels" => |_, l| labels(l),
         "forward" => |_, l| forward(l),
+        #[cfg(not(feature = "without-range"))]
+        "range" => |_, l| range(l),
         "backward" => |_, l| backward(l),
         "repair" => |_, l| repair(l),
         "snapping" => |_, l| snapping(l),
         "job" => |_, l| job(l),
-        _ => unreachable!("a call that there is"),
-    }
+        _ => return None,
+    })
 }

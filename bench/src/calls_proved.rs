@@ -30,6 +30,18 @@ pub fn call(name: &str) -> Call {
                 &mut l.scratch,
             ))
         },
+        "range" => |_, l| {
+            done(packmap::forward_range(
+                l.n,
+                l.outer,
+                &l.triangles,
+                &l.weights,
+                &l.highs,
+                &mut l.coordinates,
+                &mut l.high_coordinates,
+                &mut l.scratch,
+            ))
+        },
         "backward" => |_, l| {
             done(packmap::backward(
                 l.n,

@@ -32,6 +32,17 @@ pub fn call(name: &str) -> Call {
                 &mut l.scratch,
             ))
         },
+        "range" => |w, l| {
+            done(maps::forward_range(
+                w,
+                l.n,
+                l.outer,
+                &l.triangles,
+                [&l.weights, &l.highs],
+                [&mut l.coordinates, &mut l.high_coordinates],
+                &mut l.scratch,
+            ))
+        },
         "backward" => |w, l| {
             done(maps::backward(
                 w,

@@ -4,7 +4,8 @@
 //!     bench time N SEED                  a line for each row that n has: its name, microseconds
 //!                                        of the proved call, of the second program's, of the
 //!                                        proved call with the outer triangle at a random place of
-//!                                        the list, and of the earlier archive's, and raises
+//!                                        the list, and of the earlier archive's, raises, and
+//!                                        microseconds of the proved forward call on a range's lows
 //!     bench mesh N SEED SHAPE            n, then a triple of vertices a line, the outer one first
 //!     bench draw N SEED SHAPE PROGRAM    microseconds of forward with all weights 1, then b0 and
 //!                                        b1 of each vertex a line
@@ -18,8 +19,8 @@
 //! SHAPE is random or nest, PROGRAM proved or second (of `one` also placed: the
 //! proved call with the outer triangle at a random place), ROW the first word of a
 //! row below, THREADS and SECONDS 1 to 1000. Fields of a line of times or of jobs
-//! are parted by tabs, and '-' stands where a call makes no raises or has no outer
-//! triangle, or there is no earlier archive. A time is the least of several runs, the calls taking turns; all must
+//! are parted by tabs, and '-' stands where a call makes no raises, has no outer
+//! triangle or is not on ranges, or no earlier archive has it. A time is the least of several runs, the calls taking turns; all must
 //! answer and write the same, and none may refuse. Only an earlier archive may leave
 //! something else where the total is below 1: before C-21 repair made no first raise
 //! there, and '-' stands for its time.
@@ -34,9 +35,11 @@ mod calls_second;
 mod jobs;
 mod worst;
 
+#[cfg(feature = "beside")]
+use calls_earlier::call as earlier_call;
 use second::spheres::{moved, scramble, weights, Rng, Surface};
 use second::text::{Job, MOST_BYTES};
-use second::{Sizes, Work, TEXT_VERTICES, VERTICES};
+use second::{Sizes, Work, LIMIT, TEXT_VERTICES, VERTICES};
 use std::process::ExitCode;
 use std::time::{Duration, Instant};
 
@@ -66,7 +69,7 @@ const fn row(word: &'static str, name: &'static str, set: [&'static str; 3]) -> 
 
 /// On a nest with all weights zero every triangle is raised, 2n - 5 of them. All
 /// weights zero are a total below 1 too.
-const ROWS: [Row; 14] = [
+const ROWS: [Row; 16] = [
     row("check", "check", ["check", "random", "unit"]),
     row("check-nest", "check, nest", ["check", "nest", "unit"]),
     row("labels", "labels", ["labels", "random", "unit"]),
@@ -76,6 +79,12 @@ const ROWS: [Row; 14] = [
         "forward-nest",
         "forward, nest",
         ["forward", "nest", "positive"],
+    ),
+    row("range", "forward range", ["range", "random", "positive"]),
+    row(
+        "range-nest",
+        "forward range, nest",
+        ["range", "nest", "positive"],
     ),
     row("backward", "backward", ["backward", "random", "positive"]),
     row(
@@ -140,8 +149,12 @@ pub struct Lent {
     pub n: usize,
     pub outer: usize,
     pub triangles: Vec<u16>,
+    /// The lows of a range.
     pub weights: Vec<i64>,
+    pub highs: Vec<i64>,
+    /// The low ones of a range.
     pub coordinates: Vec<i64>,
+    pub high_coordinates: Vec<i64>,
     pub labels: Vec<u8>,
     pub scratch: Vec<i64>,
     pub shares: Vec<f64>,
@@ -150,6 +163,12 @@ pub struct Lent {
 }
 
 pub type Call = fn(&mut Work, &mut Lent) -> u64;
+
+/// There is no earlier archive.
+#[cfg(not(feature = "beside"))]
+fn earlier_call(_: &str) -> Option<Call> {
+    None
+}
 
 /// Vertices put into random triangles, then n sides tried for turning; or a nest,
 /// each vertex in the triangle that came last, listed from the inside out.
@@ -177,7 +196,9 @@ impl Lent {
             outer: 0,
             triangles: sphere(&mut rng, n, shape),
             weights: vec![1; sizes.weights],
+            highs: vec![1; sizes.weights],
             coordinates: vec![0; sizes.coordinates],
+            high_coordinates: vec![0; sizes.coordinates],
             labels: vec![0; sizes.labels],
             scratch: vec![0; sizes.scratch],
             shares: (0..sizes.points)
@@ -188,9 +209,9 @@ impl Lent {
         }
     }
 
-    /// Weights of a kind, their coordinates, and a text where n allows one.
-    /// Upward and downward are from -9 to 9, with a total of 1 or more, or below
-    /// 1.
+    /// Weights of a kind, highs that 9 lets through, the coordinates of the weights,
+    /// and a text where n allows one. Upward and downward are from -9 to 9, with a
+    /// total of 1 or more, or below 1.
     fn weigh(&mut self, seed: u64, kind: &str) {
         let len = self.weights.len();
         let list = |kind| weights(&mut Rng(seed), kind, len).expect("a kind of weights");
@@ -198,6 +219,10 @@ impl Lent {
             "upward" | "downward" => facing(list("signed"), kind == "upward"),
             _ => list(kind),
         };
+        let sum: i64 = self.weights.iter().map(|w| w.abs()).sum();
+        let spare = (LIMIT - sum) / len as i64;
+        let above = |w: &i64| w.abs() + spare.min(9);
+        self.highs = self.weights.iter().map(above).collect();
         if TEXT_VERTICES.contains(&self.n) {
             self.text = Job::write(self.n, &self.triangles, &self.weights);
         }
@@ -216,10 +241,12 @@ impl Lent {
     }
 
     /// What a call may have written.
-    fn written(&self) -> (&[i64], &[i64], &[u8], &[i64], &[u8]) {
-        let numbers = (&self.weights[..], &self.coordinates[..]);
-        let (labels, scratch) = (&self.labels[..], &self.scratch[..]);
-        (numbers.0, numbers.1, labels, scratch, &self.listing)
+    fn written(&self) -> ([&[i64]; 4], [&[u8]; 2]) {
+        let b = [&self.coordinates[..], &self.high_coordinates];
+        (
+            [&self.weights, b[0], b[1], &self.scratch],
+            [&self.labels, &self.listing],
+        )
     }
 }
 
@@ -302,16 +329,20 @@ fn time(n: usize, seed: u64) -> Result<(), String> {
         // Each proved call comes after one of the second program's.
         let mut calls = vec![(second, &start), (proved, &start)];
         calls.extend([(second, &placed), (proved, &placed)]);
-        #[cfg(feature = "beside")]
-        calls.extend([(second, &start), (calls_earlier::call(row.call), &start)]);
+        let mut add = |call: Call| {
+            calls.extend([(second, &start), (call, &start)]);
+            calls.len() - 1
+        };
+        let earlier = earlier_call(row.call).map(&mut add);
+        let forward = (row.call == "range").then(|| add(calls_proved::call("forward")));
         let ends = race(&calls);
         let (answer, _, left) = &ends[0];
         let same =
             |end: &(u64, Duration, Lent)| end.0 == *answer && end.2.written() == left.written();
-        // The earlier archive's end comes last. Before C-21 there was no first raise.
+        // Before C-21 there was no first raise.
         let low = start.weights.iter().sum::<i64>() < 1;
-        let held = if low { ends.len().min(5) } else { ends.len() };
-        let all_same = ends[..held].iter().all(same);
+        let held = |k: usize| Some(k) != forward && !(low && Some(k) == earlier);
+        let all_same = (0..ends.len()).all(|k| !held(k) || same(&ends[k]));
         if !all_same || *answer >= REFUSED {
             let what = if all_same { "is refused" } else { "differs" };
             return Err(format!("{} {what} at n = {n}, seed {seed}", row.name));
@@ -320,15 +351,12 @@ fn time(n: usize, seed: u64) -> Result<(), String> {
             "repair" => answer.to_string(),
             _ => "-".into(),
         };
-        let time = |k: usize| ends.get(k).map_or("-".into(), |end| micros(end.1));
-        let (second, proved) = (time(0), time(1));
-        let earlier = match ends.get(5) {
-            Some(end) if !same(end) => "-".into(),
-            _ => time(5),
-        };
-        let placed = if row.by_number() { time(3) } else { "-".into() };
+        let time = |k: Option<usize>| k.map_or("-".into(), |k| micros(ends[k].1));
+        let (second, proved, forward) = (time(Some(0)), time(Some(1)), time(forward));
+        let placed = time(row.by_number().then_some(3));
+        let earlier = time(earlier.filter(|&k| same(&ends[k])));
         let name = row.name;
-        println!("{name}\t{proved}\t{second}\t{placed}\t{earlier}\t{raises}");
+        println!("{name}\t{proved}\t{second}\t{placed}\t{earlier}\t{raises}\t{forward}");
     }
     Ok(())
 }

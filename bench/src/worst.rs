@@ -7,10 +7,11 @@ use second::{Work, TEXT_VERTICES};
 use std::time::Duration;
 
 /// The calls, and whether weights matter to them.
-const CALLS: [(&str, bool); 7] = [
+const CALLS: [(&str, bool); 8] = [
     ("check", false),
     ("labels", false),
     ("forward", true),
+    ("range", true),
     ("backward", true),
     ("repair", true),
     ("snapping", false),

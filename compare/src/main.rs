@@ -11,6 +11,7 @@ mod mapping;
 mod meshes;
 mod outer;
 mod papers;
+mod ranging;
 mod repairing;
 mod snapping;
 mod tally;
@@ -26,6 +27,7 @@ fn main() {
         outer::run(count / 4, seed),
         labelling::run(count, seed),
         forward,
+        ranging::run(count, seed),
         backward,
         repairing::run(count, seed),
         snapping::run(250 * count, seed),

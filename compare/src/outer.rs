@@ -13,28 +13,34 @@ use second::{damage, Answer, Refusal};
 /// An answer with all that a call may write, behind each other.
 type Left = (Answer<u64>, Vec<u8>, Vec<i64>);
 
-/// Answers and buffers of the five calls: check, labels, forward, backward, repair.
-/// The backward map is asked for what the forward map wrote.
-fn left(n: usize, outer: usize, mesh: &[u16], weights: &[i64]) -> [Left; 5] {
+/// Answers and buffers of the six calls: check, labels, forward, range, backward,
+/// repair. The ranges go from the weights to 1 above them, and the backward map is
+/// asked for what the forward map wrote.
+fn left(n: usize, outer: usize, mesh: &[u16], weights: &[i64]) -> [Left; 6] {
     let none = |answer| told(answer).map(|()| 0);
-    let mut scratch = [(); 5].map(|_| stale_scratch(n));
+    let mut scratch = [(); 6].map(|_| stale_scratch(n));
     let checked = packmap::check(n, outer, mesh, &mut scratch[0]);
     let mut labels = stale_bytes(packmap::labels_len(n));
     let labelled = packmap::labels(n, outer, mesh, &mut labels, &mut scratch[1]);
     let mut there = stale(packmap::coordinates_len(n));
     let forward = packmap::forward(n, outer, mesh, weights, &mut there, &mut scratch[2]);
+    let highs: Vec<i64> = weights.iter().map(|w| w.saturating_add(1)).collect();
+    let [mut low, mut high] = [(); 2].map(|_| stale(packmap::coordinates_len(n)));
+    let (b0, b1) = (&mut low, &mut high);
+    let ranged = packmap::forward_range(n, outer, mesh, weights, &highs, b0, b1, &mut scratch[3]);
     let mut back = stale(packmap::weights_len(n));
-    let backward = packmap::backward(n, outer, mesh, &there, &mut back, &mut scratch[3]);
+    let backward = packmap::backward(n, outer, mesh, &there, &mut back, &mut scratch[4]);
     let (mut raised, mut drawn) = (weights.to_vec(), stale(packmap::coordinates_len(n)));
     let (w, b) = (&mut raised, &mut drawn);
-    let repaired = packmap::repair(n, outer, mesh, w, b, &mut scratch[4]);
-    let [a, b, c, d, e] = scratch;
+    let repaired = packmap::repair(n, outer, mesh, w, b, &mut scratch[5]);
+    let [a, b, c, d, e, f] = scratch;
     [
         (none(checked), vec![], a),
         (none(labelled), labels, b),
         (none(forward), vec![], [there, c].concat()),
-        (none(backward), vec![], [back, d].concat()),
-        (told(repaired), vec![], [raised, drawn, e].concat()),
+        (none(ranged), vec![], [low, high, d].concat()),
+        (none(backward), vec![], [back, e].concat()),
+        (told(repaired), vec![], [raised, drawn, f].concat()),
     ]
 }
 

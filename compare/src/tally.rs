@@ -27,7 +27,7 @@ pub fn told<T>(answer: Result<T, Refusal>) -> Answer<T> {
 pub struct Tally {
     name: &'static str,
     wanted: &'static [usize],
-    met: [u64; 26],
+    met: [u64; 30],
     agree: u64,
     differ: u64,
 }
@@ -38,7 +38,7 @@ impl Tally {
         Tally {
             name,
             wanted,
-            met: [0; 26],
+            met: [0; 30],
             agree: 0,
             differ: 0,
         }

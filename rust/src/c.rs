@@ -37,6 +37,24 @@ extern "C" {
         carried: *mut u64,
     ) -> u64;
 
+    pub fn packmap_forward_range(
+        n: usize,
+        outer: usize,
+        triangles: *const u16,
+        triangles_len: usize,
+        lows: *const i64,
+        lows_len: usize,
+        highs: *const i64,
+        highs_len: usize,
+        low_coordinates: *mut i64,
+        low_coordinates_len: usize,
+        high_coordinates: *mut i64,
+        high_coordinates_len: usize,
+        scratch: *mut i64,
+        scratch_len: usize,
+        carried: *mut u64,
+    ) -> u64;
+
     pub fn packmap_backward(
         n: usize,
         outer: usize,

@@ -119,6 +119,48 @@ pub fn forward(
     })
 }
 
+/// Writes the low and the high of each coordinate where each weight has a low and a high. They are
+/// the coordinates of the lows and those of the highs, so that both ends are reached, and no weights
+/// within the ranges give a coordinate that passes them. With all lows 1 or more, no weights within
+/// the ranges leave an inner triangle flat or turned.
+///
+/// # Errors
+/// Those of [`check`], with [`Range`](Refusal::Range) between [`OuterNumber`](Refusal::OuterNumber)
+/// and [`VertexNumber`](Refusal::VertexNumber); then [`Weights`](Refusal::Weights), of either list.
+#[inline]
+#[allow(clippy::too_many_arguments)] // a slice each, as in C
+pub fn forward_range(
+    n: usize,
+    outer: usize,
+    triangles: &[u16],
+    lows: &[i64],
+    highs: &[i64],
+    low_coordinates: &mut [i64],
+    high_coordinates: &mut [i64],
+    scratch: &mut [i64],
+) -> Result<(), Refusal> {
+    // SAFETY: see above.
+    done(|carried| unsafe {
+        c::packmap_forward_range(
+            n,
+            outer,
+            triangles.as_ptr(),
+            triangles.len(),
+            lows.as_ptr(),
+            lows.len(),
+            highs.as_ptr(),
+            highs.len(),
+            low_coordinates.as_mut_ptr(),
+            low_coordinates.len(),
+            high_coordinates.as_mut_ptr(),
+            high_coordinates.len(),
+            scratch.as_mut_ptr(),
+            scratch.len(),
+            carried,
+        )
+    })
+}
+
 /// Writes the weights that the coordinates give. [`forward`] and `backward` undo each other.
 ///
 /// # Errors

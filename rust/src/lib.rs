@@ -7,6 +7,7 @@
 //! | [`check`] | triangles | nothing: tests that they form a sphere |
 //! | [`labels`] | triangles | a label 0, 1, 2 for each corner of each inner triangle |
 //! | [`forward`] | triangles, weights | coordinates |
+//! | [`forward_range`] | triangles, a low and a high for each weight | the low and the high of each coordinate |
 //! | [`backward`] | triangles, coordinates | weights |
 //! | [`repair`] | triangles, weights | raised weights and their coordinates |
 //! | [`snap_points`] | drawn points | coordinates |
@@ -32,6 +33,13 @@
 //! let mut weights = vec![0; packmap::weights_len(n)];
 //! packmap::backward(n, outer, &triangles, &coordinates, &mut weights, &mut scratch)?;
 //! assert_eq!(weights, [5, 3, 2]);
+//!
+//! // The same weights as they were measured: from 4 to 6, 3, and from 1 to 2.
+//! let (lows, highs) = ([4, 3, 1], [6, 3, 2]);
+//! let (mut low, mut high) = (coordinates.clone(), coordinates.clone());
+//! packmap::forward_range(n, outer, &triangles, &lows, &highs, &mut low, &mut high, &mut scratch)?;
+//! assert_eq!(low, [8, 0, 0, 0, 8, 0, 0, 0, 8, 3, 4, 1]);
+//! assert_eq!(high, [11, 0, 0, 0, 11, 0, 0, 0, 11, 3, 6, 2]);
 //!
 //! // With -1 for the 2, the last triangle is turned. One raise puts it right.
 //! let mut weights = [5, 3, -1];
@@ -71,7 +79,7 @@
 //! |---|---|---|
 //! | triangles | `3(2n - 4)` | [`triangles_len`] |
 //! | labels | `3(2n - 5)` | [`labels_len`] |
-//! | weights | `2n - 5` | [`weights_len`] |
+//! | weights, lows, highs | `2n - 5` | [`weights_len`] |
 //! | coordinates: b0, b1, b2 of each vertex | `3n` | [`coordinates_len`] |
 //! | drawn points: x, y of each | `2n` | [`points_len`] |
 //! | scratch | `10n` | [`scratch_len`] |
@@ -108,7 +116,7 @@ mod calls;
 mod lengths;
 mod refusal;
 
-pub use calls::{backward, check, forward, job, labels, repair, snap_points};
+pub use calls::{backward, check, forward, forward_range, job, labels, repair, snap_points};
 pub use lengths::{
     coordinates_len, labels_len, points_len, scratch_len, triangles_len, weights_len, JOB_BYTES,
     JOB_STACK, LEAST_VERTICES, LIMIT, MOST_JOB_VERTICES, MOST_VERTICES, STACK,

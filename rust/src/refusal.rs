@@ -70,6 +70,8 @@ pub enum Refusal {
         /// mesh tell it, [`job`](crate::job) does not.
         vertex: Option<u64>,
     },
+    /// 29: a low is above its high.
+    Range,
 }
 
 impl Refusal {
@@ -99,6 +101,7 @@ impl Refusal {
             19 => Refusal::Text,
             21 => Refusal::OuterNumber,
             25 => Refusal::Stray { vertex: None },
+            29 => Refusal::Range,
             _ => panic!("libpackmap.a is not the one for this crate: it answered {number}"),
         }
     }
@@ -118,7 +121,7 @@ impl Refusal {
         }
     }
 
-    /// Its number, 1 to 19, 21 or 25, as the calls in C and the program packmap give it.
+    /// Its number, 1 to 19, 21, 25 or 29, as the calls in C and the program packmap give it.
     pub const fn number(self) -> u8 {
         match self {
             Refusal::VertexCount => 1,
@@ -142,6 +145,7 @@ impl Refusal {
             Refusal::Text => 19,
             Refusal::OuterNumber => 21,
             Refusal::Stray { .. } => 25,
+            Refusal::Range => 29,
         }
     }
 
@@ -169,6 +173,7 @@ impl Refusal {
             Refusal::Text => "the text is too long",
             Refusal::OuterNumber => "the outer number is not below the number of triangles",
             Refusal::Stray { .. } => "a vertex is in no triangle",
+            Refusal::Range => "a low weight is above its high one",
         }
     }
 }

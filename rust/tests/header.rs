@@ -5,7 +5,7 @@ use packmap::Refusal;
 const HEADER: &str = include_str!("../../host/packmap.h");
 
 /// One refusal for each number, in order.
-const ALL: [Refusal; 21] = [
+const ALL: [Refusal; 22] = [
     Refusal::VertexCount,
     Refusal::Length,
     Refusal::VertexNumber,
@@ -27,6 +27,7 @@ const ALL: [Refusal; 21] = [
     Refusal::Text,
     Refusal::OuterNumber,
     Refusal::Stray { vertex: Some(7) },
+    Refusal::Range,
 ];
 
 /// The part of the header between two marks.

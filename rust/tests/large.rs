@@ -1,4 +1,4 @@
-//! The stack of up to 4,096 vertices, its outer triangle in front and at other places: labels, both
+//! The stack of up to 4,096 vertices, its outer triangle in front and at other places: labels, the
 //! maps and repair, with answers known by hand.
 
 mod common;
@@ -26,6 +26,10 @@ fn maps_there_and_back() {
             let coordinates = stack_coordinates(n, &weights);
             let there = forward(n, outer, &triangles, &weights);
             assert_eq!(there.as_ref(), Ok(&coordinates));
+            let highs: Vec<i64> = weights.iter().map(|w| w + w.abs()).collect();
+            let ranged = forward_range(n, outer, &triangles, &weights, &highs);
+            let high = stack_coordinates(n, &highs);
+            assert_eq!(ranged, Ok([coordinates.clone(), high]));
             assert_eq!(backward(n, outer, &triangles, &coordinates), Ok(weights));
         }
     }

@@ -85,15 +85,26 @@ const NO_PLACE: usize = 4;
 fn row_2_of_the_scratch_before() {
     let mut labelled = stale_bytes(LABELS);
     let (mut weights, mut coordinates) = (stale(WEIGHTS), stale(COORDINATES));
+    let (w, mut high) = (stale(WEIGHTS), stale(COORDINATES));
     let mut scratch = stale(24 * 4);
     let answers = [
         check(4, 0, &TETRA, &mut scratch),
         labels(4, 0, &TETRA, &mut labelled, &mut scratch),
         forward(4, 0, &TETRA, &weights, &mut coordinates, &mut scratch),
+        forward_range(
+            4,
+            0,
+            &TETRA,
+            &w,
+            &w,
+            &mut coordinates,
+            &mut high,
+            &mut scratch,
+        ),
         backward(4, 0, &TETRA, &coordinates, &mut weights, &mut scratch),
         repair(4, 0, &TETRA, &mut weights, &mut coordinates, &mut scratch).map(|_| ()),
     ];
-    assert_eq!(answers, [Err(Refusal::Length); 5]);
+    assert_eq!(answers, [Err(Refusal::Length); 6]);
     assert_eq!(scratch, stale(24 * 4));
 }
 
@@ -131,6 +142,38 @@ fn row_2_of_the_maps() {
         assert_eq!(
             (weights, coordinates, scratch),
             (stale(w), stale(b), stale(s))
+        );
+    }
+}
+
+/// Each low is above its high, which 29 would refuse, were it asked.
+#[test]
+fn row_2_of_the_range() {
+    let exact = [
+        TRIANGLES,
+        WEIGHTS,
+        WEIGHTS,
+        COORDINATES,
+        COORDINATES,
+        SCRATCH,
+    ];
+    for [t, l, h, low, high, s] in changed(exact) {
+        let (lows, highs) = (vec![1; l], vec![0; h]);
+        let (mut to_low, mut to_high, mut scratch) = (stale(low), stale(high), stale(s));
+        let answer = forward_range(
+            4,
+            NO_PLACE,
+            &tetra(t),
+            &lows,
+            &highs,
+            &mut to_low,
+            &mut to_high,
+            &mut scratch,
+        );
+        assert_eq!(answer, Err(Refusal::Length));
+        assert_eq!(
+            (to_low, to_high, scratch),
+            (stale(low), stale(high), stale(s))
         );
     }
 }

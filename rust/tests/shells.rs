@@ -1,12 +1,12 @@
-//! Document 01's checked shells, P1 to P11, through the calls; those with a mesh, with their outer
-//! triangle at every place too.
+//! Document 01's checked shells, P1 to P11, and repairs and ranges worked out by hand, through the
+//! calls; those with a mesh, with their outer triangle at every place too.
 
 mod common;
 
 use common::*;
 use packmap::Refusal;
 use second::naive::{self, Verdict};
-use second::shells::{repairs, EXAMPLE, FIVE, LISTING, PAIR, TETRA};
+use second::shells::{ranges, repairs, EXAMPLE, FIVE, LISTING, PAIR, TETRA};
 use second::spheres::moved;
 use second::text::Job;
 use second::Extra;
@@ -107,6 +107,19 @@ fn repairs_by_hand() {
         let untold = Refusal::Raise { raises: None };
         let wanted = listing.map_err(|_| untold);
         assert_eq!(job(&text, packmap::JOB_BYTES), wanted);
+    }
+}
+
+#[test]
+fn ranges_by_hand() {
+    for known in ranges() {
+        for outer in 0..2 * known.n - 4 {
+            let triangles = moved(known.triangles, 0, outer);
+            let ranged = forward_range(known.n, outer, &triangles, &known.lows, &known.highs);
+            let by_number = ranged.map_err(|refusal| refusal.number());
+            let wanted = known.answer.clone();
+            assert_eq!(by_number, wanted.map_err(|refusal| refusal.number));
+        }
     }
 }
 

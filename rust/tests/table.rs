@@ -24,6 +24,8 @@ fn row_1_vertex_count() {
             assert_eq!(check(n, outer, &TETRA), Err(refused));
             assert_eq!(labels(n, outer, &TETRA), Err(refused));
             assert_eq!(forward(n, outer, &TETRA, &[1; 3]), Err(refused));
+            let ranged = forward_range(n, outer, &TETRA, &[1; 3], &[0; 3]);
+            assert_eq!(ranged, Err(refused));
             assert_eq!(backward(n, outer, &TETRA, &[0; 12]), Err(refused));
             assert_eq!(repair(n, outer, &TETRA, &[1; 3]).0, Err(refused));
         }
@@ -43,6 +45,10 @@ fn row_2_length() {
         assert_eq!(check(4, outer, &TETRA[..9]), Err(refused));
         assert_eq!(labels(4, outer, &TETRA[..9]), Err(refused));
         assert_eq!(forward(4, outer, &TETRA, &[1; 2]), Err(refused));
+        for (lows, highs) in [([1; 3].as_slice(), [0; 2].as_slice()), (&[1; 2], &[0; 3])] {
+            let ranged = forward_range(4, outer, &TETRA, lows, highs);
+            assert_eq!(ranged, Err(refused));
+        }
         assert_eq!(backward(4, outer, &TETRA, &[0; 11]), Err(refused));
         assert_eq!(repair(4, outer, &TETRA, &[1; 2]).0, Err(refused));
     }
@@ -57,6 +63,8 @@ fn all_refuse(n: usize, outer: usize, triangles: &[u16], refused: Refusal) {
     assert_eq!(check(n, outer, triangles), Err(refused));
     assert_eq!(labels(n, outer, triangles), Err(refused));
     assert_eq!(forward(n, outer, triangles, &heavy), Err(refused));
+    let ranged = forward_range(n, outer, triangles, &heavy, &heavy);
+    assert_eq!(ranged, Err(refused));
     assert_eq!(backward(n, outer, triangles, &far), Err(refused));
     assert_eq!(repair(n, outer, triangles, &heavy).0, Err(refused));
 }
@@ -101,12 +109,40 @@ fn rows_3_to_8_and_25_meshes() {
     }
 }
 
+/// Asked after 21 and before the rows of the mesh.
+#[test]
+fn row_29_range() {
+    let spheres: [(usize, &[u16]); 2] = [(3, &PAIR), (4, &TETRA)];
+    let meshes = spheres.into_iter().chain(ROWS.map(|(_, n, t)| (n, t)));
+    for (n, triangles) in meshes {
+        let len = 2 * n - 5;
+        for place in [0, len / 2, len - 1] {
+            for (low, high) in [(1, 0), (i64::MAX, i64::MIN)] {
+                let (mut lows, mut highs) = (vec![i64::MIN; len], vec![i64::MAX; len]);
+                (lows[place], highs[place]) = (low, high);
+                let ranged = |outer| forward_range(n, outer, triangles, &lows, &highs);
+                for outer in 0..2 * n - 4 {
+                    assert_eq!(ranged(outer), Err(Refusal::Range));
+                }
+                assert_eq!(ranged(2 * n - 4), Err(Refusal::OuterNumber));
+            }
+        }
+    }
+}
+
 #[test]
 fn row_9_weights() {
     let refused = Refusal::Weights;
     for weights in [[L, 1, 0], [-L, 0, -1], [0, i64::MIN, 0], [i64::MAX; 3]] {
         assert_eq!(forward(4, 0, &TETRA, &weights), Err(refused));
         assert_eq!(repair(4, 0, &TETRA, &weights).0, Err(refused));
+        let ranged = forward_range(4, 0, &TETRA, &weights, &weights);
+        assert_eq!(ranged, Err(refused));
+    }
+    // By the lows alone, and by the highs alone.
+    for (lows, highs) in [([-L, 0, -1], [0; 3]), ([0; 3], [L, 0, 1])] {
+        let ranged = forward_range(4, 0, &TETRA, &lows, &highs);
+        assert_eq!(ranged, Err(refused));
     }
     let text = Job::write(4, &TETRA, &[L, 1, 0]);
     assert_eq!(job(&text, 0), Err(refused));

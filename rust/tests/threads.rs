@@ -12,6 +12,7 @@ use std::thread;
 struct Made {
     labels: Vec<u8>,
     coordinates: Vec<i64>,
+    ranged: [Vec<i64>; 2],
     weights: Vec<i64>,
     repaired: Repaired,
     points: Vec<i64>,
@@ -27,8 +28,10 @@ fn make(n: usize, triangles: &[u16], seed: u64) -> Made {
     let text = Job::write(n, triangles, &weights);
     let coordinates = forward(n, 0, triangles, &weights).unwrap();
     assert_eq!(coordinates, stack_coordinates(n, &weights));
+    let highs: Vec<i64> = weights.iter().map(|w| w + 1).collect();
     Made {
         labels: labels(n, 0, triangles).unwrap(),
+        ranged: forward_range(n, 0, triangles, &weights, &highs).unwrap(),
         weights: backward(n, 0, triangles, &coordinates).unwrap(),
         coordinates,
         repaired: repair(n, 0, triangles, &weights),
@@ -68,11 +71,13 @@ fn within_the_stack() {
     let (n, outer) = (4096, 4094);
     let (triangles, shares) = (moved(&stack(n), 0, outer), vec![0.3; 2 * n]);
     let (mut weights, mut labels) = (signed(2 * n - 5, 1), stale_bytes(6 * n - 15));
-    let (mut b, mut scratch) = (stale(3 * n), stale(10 * n));
+    let (mut b, mut high, mut scratch) = (stale(3 * n), stale(3 * n), stale(10 * n));
     on_stack(packmap::STACK, move || {
         packmap::check(n, outer, &triangles, &mut scratch).unwrap();
         packmap::labels(n, outer, &triangles, &mut labels, &mut scratch).unwrap();
         packmap::forward(n, outer, &triangles, &weights, &mut b, &mut scratch).unwrap();
+        let (w, low) = (&weights, &mut b);
+        packmap::forward_range(n, outer, &triangles, w, w, low, &mut high, &mut scratch).unwrap();
         packmap::backward(n, outer, &triangles, &b, &mut weights, &mut scratch).unwrap();
         packmap::repair(n, outer, &triangles, &mut weights, &mut b, &mut scratch).unwrap();
         packmap::snap_points(n, &shares, 24, &mut b).unwrap();

@@ -94,6 +94,44 @@ pub unsafe extern "C" fn second_forward(
     told(answer.map(|()| None), carried)
 }
 
+/// As `packmap_forward_range`.
+///
+/// # Safety
+/// As of `second_mesh_check`.
+#[no_mangle]
+pub unsafe extern "C" fn second_forward_range(
+    n: usize,
+    outer: usize,
+    triangles: *const u16,
+    triangles_len: usize,
+    lows: *const i64,
+    lows_len: usize,
+    highs: *const i64,
+    highs_len: usize,
+    low: *mut i64,
+    low_len: usize,
+    high: *mut i64,
+    high_len: usize,
+    scratch: *mut i64,
+    scratch_len: usize,
+    carried: &mut u64,
+) -> u64 {
+    let triangles = from_raw_parts(triangles, triangles_len);
+    let weights = [
+        from_raw_parts(lows, lows_len),
+        from_raw_parts(highs, highs_len),
+    ];
+    let b = [
+        from_raw_parts_mut(low, low_len),
+        from_raw_parts_mut(high, high_len),
+    ];
+    let scratch = from_raw_parts_mut(scratch, scratch_len);
+    let answer = WORK.with_borrow_mut(|work| {
+        maps::forward_range(work, n, outer, triangles, weights, b, scratch)
+    });
+    told(answer.map(|()| None), carried)
+}
+
 /// As `packmap_backward`.
 ///
 /// # Safety

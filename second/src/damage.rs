@@ -229,6 +229,48 @@ pub fn heavy(rng: &mut Rng, len: usize) -> Vec<i64> {
     w
 }
 
+/// Ranges of which one low is above its high, made from others: by 1, or with one end
+/// or both as far off as they can be.
+pub fn crossed(rng: &mut Rng, [mut lows, mut highs]: [Vec<i64>; 2]) -> [Vec<i64>; 2] {
+    let t = [0, lows.len() - 1, rng.below(lows.len())][rng.below(3)];
+    let high = highs[t].min(i64::MAX - 1);
+    (lows[t], highs[t]) = match rng.below(4) {
+        0 => (high + 1, high),
+        1 => (i64::MAX, high),
+        2 => (lows[t].max(i64::MIN + 1), i64::MIN),
+        _ => (i64::MAX, i64::MIN),
+    };
+    [lows, highs]
+}
+
+/// Ranges, made from accepted ones, that row 9 refuses: by the lows alone, by the
+/// highs alone, or by both.
+pub fn heavy_range(rng: &mut Rng, [mut lows, mut highs]: [Vec<i64>; 2]) -> [Vec<i64>; 2] {
+    let by = rng.below(3);
+    if by != 0 {
+        push(rng, &mut lows, -1);
+    }
+    if by != 1 {
+        push(rng, &mut highs, 1);
+    }
+    [lows, highs]
+}
+
+/// Moves weights down, or up, so far that the list is past the limit.
+fn push(rng: &mut Rng, list: &mut [i64], sign: i64) {
+    let t = rng.below(list.len());
+    let rest = list.iter().map(|w| w.abs()).sum::<i64>() - list[t].abs();
+    let end = if sign < 0 { i64::MIN } else { i64::MAX };
+    match rng.below(4) {
+        // One more than the limit.
+        0 => list[t] = (LIMIT + 1 - rest) * sign,
+        1 => list[t] = end,
+        // Sums that come round to little if they overflow.
+        2 => list.fill(end),
+        _ => list[t] = rng.within(LIMIT + 1, i64::MAX / 2) * sign,
+    }
+}
+
 /// Weights, more than one, whose repair 13 stops before any raise. All weight
 /// on one triangle puts every vertex on an outer one, so all other triangles
 /// are flat; they weigh nothing, and the least raise of one passes the limit.

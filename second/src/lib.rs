@@ -64,8 +64,8 @@ impl Refusal {
 }
 
 /// The numbers of the table.
-pub const NUMBERS: [u8; 21] = [
-    1, 2, 3, 4, 5, 6, 7, 8, 9, 10, 11, 12, 13, 14, 15, 16, 17, 18, 19, 21, 25,
+pub const NUMBERS: [u8; 22] = [
+    1, 2, 3, 4, 5, 6, 7, 8, 9, 10, 11, 12, 13, 14, 15, 16, 17, 18, 19, 21, 25, 29,
 ];
 
 /// A call's answer.

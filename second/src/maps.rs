@@ -1,4 +1,5 @@
-//! Forward and backward map on an accepted mesh and its labels; both linear.
+//! Forward and backward map on an accepted mesh and its labels, and the forward
+//! map of ranges; all linear.
 //!
 //! In an inner triangle p, q, r are the corners labelled 0, 1, 2. Side pq is
 //! the one its colour-2 walk crosses: the side above the triangle. It either
@@ -7,7 +8,7 @@
 //! or colour 2 towards r.
 
 use crate::labels::Labels;
-use crate::mesh::{next, prev, slot, Mesh, OUTER, RIM};
+use crate::mesh::{has_place, next, prev, slot, Mesh, OUTER, RIM};
 use crate::{exact, weigh, Answer, Refusal, Sizes, Work, LIMIT};
 
 /// A side that colour-2 walks cross, with the triangle below it, which crosses
@@ -175,6 +176,41 @@ pub fn forward(
     weigh(weights)?;
     work.walks.build(&work.mesh, &work.labels);
     work.walks.forward(&work.mesh, weights, coordinates);
+    Ok(())
+}
+
+/// The forward map of ranges as a call: a low and a high for each weight, and for
+/// each coordinate. A coordinate sums the weights of some triangles, so its low is
+/// that of the lows, and its high that of the highs.
+pub fn forward_range(
+    work: &mut Work,
+    n: usize,
+    outer: usize,
+    triangles: &[u16],
+    [lows, highs]: [&[i64]; 2],
+    [low, high]: [&mut [i64]; 2],
+    scratch: &mut [i64],
+) -> Answer<()> {
+    let sizes = Sizes::of(n)?;
+    exact(&[
+        (triangles.len(), sizes.triangles),
+        (lows.len(), sizes.weights),
+        (highs.len(), sizes.weights),
+        (low.len(), sizes.coordinates),
+        (high.len(), sizes.coordinates),
+        (scratch.len(), sizes.scratch),
+    ])?;
+    scratch.fill(0);
+    has_place(triangles, outer)?;
+    if lows.iter().zip(highs).any(|(low, high)| low > high) {
+        return Err(Refusal::plain(29));
+    }
+    work.open(n, outer, triangles)?;
+    weigh(lows)?;
+    weigh(highs)?;
+    work.walks.build(&work.mesh, &work.labels);
+    work.walks.forward(&work.mesh, lows, low);
+    work.walks.forward(&work.mesh, highs, high);
     Ok(())
 }
 

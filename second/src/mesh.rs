@@ -90,9 +90,7 @@ impl Mesh {
     /// time. The triangles have to be copied in any case, so that moving the
     /// outer one to the front takes no time of its own.
     pub fn load(&mut self, n: usize, outer: usize, triangles: &[u16]) -> Answer<()> {
-        if outer >= triangles.len() / 3 {
-            return Err(Refusal::plain(21));
-        }
+        has_place(triangles, outer)?;
         if triangles.iter().copied().max() >= Some(n as u16) {
             return Err(Refusal::plain(3));
         }
@@ -214,6 +212,14 @@ impl Mesh {
         }
         Ok(())
     }
+}
+
+/// Row 21.
+pub fn has_place(triangles: &[u16], outer: usize) -> Answer<()> {
+    if outer >= triangles.len() / 3 {
+        return Err(Refusal::plain(21));
+    }
+    Ok(())
 }
 
 /// The mesh check as a call.

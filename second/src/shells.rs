@@ -1,5 +1,5 @@
-//! The sample meshes and texts of document 01, one for 25, and repairs worked out
-//! by hand. A mesh is the flat list of its triples; on n vertices it has 3(2n - 4)
+//! The sample meshes and texts of document 01, one for 25, and repairs and ranges
+//! worked out by hand. A mesh is the flat list of its triples; on n vertices it has 3(2n - 4)
 //! numbers.
 
 use crate::{Answer, Extra, Refusal, LIMIT};
@@ -150,25 +150,34 @@ const ON_INSIDE: [Case<5>; 5] = [
     ([0, -HALF - 1, 0, 0, 0], stopped(0), [0, -HALF - 1, 0, 0, 0]),
 ];
 
-/// The cases of a mesh; `drawn` has the coordinates of its inner vertices by the
-/// weights.
-fn on<const K: usize>(
+/// The coordinates of the inner vertices by the weights.
+type Inner<const K: usize> = fn(&[i64; K]) -> Vec<i64>;
+
+const IN_PAIR: Inner<1> = |_| vec![];
+const IN_TETRA: Inner<3> = |w| vec![w[1], w[0], w[2]];
+const IN_INSIDE: Inner<5> = |&[u, x, y, z, s]| vec![y, x, u + z + s, y + u, x + s, z];
+
+/// The coordinates of weights; 0, 1 and 2 are the outer vertices.
+fn drawn<const K: usize>(inner: Inner<K>, weights: &[i64; K]) -> Vec<i64> {
+    let total = weights.iter().sum();
+    let corners = vec![total, 0, 0, 0, total, 0, 0, 0, total];
+    [corners, inner(weights)].concat()
+}
+
+/// The cases of a mesh.
+fn repairs_on<const K: usize>(
     n: usize,
     triangles: &'static [u16],
     cases: &[Case<K>],
-    drawn: fn(&[i64; K]) -> Vec<i64>,
+    inner: Inner<K>,
 ) -> Vec<Repair> {
-    let repair = |(weights, answer, left): &Case<K>| {
-        let total = left.iter().sum();
-        let corners = vec![total, 0, 0, 0, total, 0, 0, 0, total];
-        Repair {
-            n,
-            triangles,
-            weights: weights.to_vec(),
-            answer: *answer,
-            left: left.to_vec(),
-            coordinates: [corners, drawn(left)].concat(),
-        }
+    let repair = |(weights, answer, left): &Case<K>| Repair {
+        n,
+        triangles,
+        weights: weights.to_vec(),
+        answer: *answer,
+        left: left.to_vec(),
+        coordinates: drawn(inner, left),
     };
     cases.iter().map(repair).collect()
 }
@@ -176,11 +185,90 @@ fn on<const K: usize>(
 /// P6 to P8, row 13's example, and repairs with N below 1 or just 1.
 pub fn repairs() -> Vec<Repair> {
     [
-        on(3, &PAIR, &ON_PAIR, |_| vec![]),
-        on(4, &TETRA, &ON_TETRA, |w| vec![w[1], w[0], w[2]]),
-        on(5, &INSIDE, &ON_INSIDE, |&[u, x, y, z, s]| {
-            vec![y, x, u + z + s, y + u, x + s, z]
-        }),
+        repairs_on(3, &PAIR, &ON_PAIR, IN_PAIR),
+        repairs_on(4, &TETRA, &ON_TETRA, IN_TETRA),
+        repairs_on(5, &INSIDE, &ON_INSIDE, IN_INSIDE),
+    ]
+    .into_iter()
+    .flatten()
+    .collect()
+}
+
+/// Lows and highs for the weights, and the low and the high coordinates or the
+/// refusal. The outer triangle is in front.
+pub struct Ranges {
+    pub n: usize,
+    pub triangles: &'static [u16],
+    pub lows: Vec<i64>,
+    pub highs: Vec<i64>,
+    pub answer: Answer<[Vec<i64>; 2]>,
+}
+
+/// Lows, highs, and the number of the refusal, 0 for none.
+type RangeCase<const K: usize> = ([i64; K], [i64; K], u8);
+
+const RANGES_ON_PAIR: [RangeCase<1>; 9] = [
+    ([2], [7], 0),
+    ([-7], [-7], 0),
+    ([-LIMIT], [LIMIT], 0),
+    ([1], [0], 29),
+    ([i64::MAX], [i64::MIN], 29),
+    // 9 by the lows alone, by the highs alone, by both.
+    ([-LIMIT - 1], [0], 9),
+    ([0], [LIMIT + 1], 9),
+    ([i64::MIN], [i64::MAX], 9),
+    ([i64::MIN], [i64::MIN], 9),
+];
+
+const RANGES_ON_TETRA: [RangeCase<3>; 11] = [
+    ([4, 3, 1], [6, 3, 2], 0),
+    ([-1; 3], [1; 3], 0),
+    ([-LIMIT, 0, 0], [0, 0, LIMIT], 0),
+    // In the first triangle alone, in the second, in the last.
+    ([1, 0, 0], [0; 3], 29),
+    ([0; 3], [1, -1, 1], 29),
+    ([5, 5, 6], [5; 3], 29),
+    // 29 comes before 9.
+    ([LIMIT, 1, 0], [LIMIT, 0, 1], 29),
+    ([0, 0, i64::MAX], [0, i64::MAX, i64::MIN], 29),
+    ([-LIMIT, -1, 0], [0; 3], 9),
+    ([0; 3], [LIMIT, 0, 1], 9),
+    ([i64::MIN, i64::MIN, 0], [0, i64::MAX, i64::MAX], 9),
+];
+
+const RANGES_ON_INSIDE: [RangeCase<5>; 3] = [
+    ([1, 2, 3, 4, 5], [6, 2, 9, 5, 7], 0),
+    ([-9, 0, -1, 0, 0], [-8, 0, 1, 3, 0], 0),
+    ([1, 2, 3, 4, 5], [1, 2, 3, 3, 5], 29),
+];
+
+/// The cases of a mesh.
+fn ranges_on<const K: usize>(
+    n: usize,
+    triangles: &'static [u16],
+    cases: &[RangeCase<K>],
+    inner: Inner<K>,
+) -> Vec<Ranges> {
+    let ranges = |(lows, highs, number): &RangeCase<K>| Ranges {
+        n,
+        triangles,
+        lows: lows.to_vec(),
+        highs: highs.to_vec(),
+        answer: match number {
+            0 => Ok([drawn(inner, lows), drawn(inner, highs)]),
+            _ => Err(Refusal::plain(*number)),
+        },
+    };
+    cases.iter().map(ranges).collect()
+}
+
+/// Ranges that are accepted, with equal ends and with sums at the limit among
+/// them, and refused by 29 and by 9.
+pub fn ranges() -> Vec<Ranges> {
+    [
+        ranges_on(3, &PAIR, &RANGES_ON_PAIR, IN_PAIR),
+        ranges_on(4, &TETRA, &RANGES_ON_TETRA, IN_TETRA),
+        ranges_on(5, &INSIDE, &RANGES_ON_INSIDE, IN_INSIDE),
     ]
     .into_iter()
     .flatten()

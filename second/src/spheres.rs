@@ -1,7 +1,7 @@
 //! Random spheres (and tori for damage): a surface grown by putting vertices
 //! into triangles and by turning sides within their two triangles, then
 //! renumbered, with each triple rotated and the list shuffled. Weight lists of
-//! several kinds and places for the outer triangle go with them.
+//! several kinds, ranges and places for the outer triangle go with them.
 
 use crate::LIMIT;
 
@@ -306,4 +306,40 @@ pub fn weights(rng: &mut Rng, kind: &str, len: usize) -> Option<Vec<i64>> {
 pub fn any_weights(rng: &mut Rng, len: usize) -> Vec<i64> {
     let kind = KINDS[rng.below(KINDS.len())];
     weights(rng, kind, len).expect("a kind from the list")
+}
+
+/// Lows and highs that rows 29 and 9 let through: equal ends; halves of two lists;
+/// sums of the limit, or nearly, below 0 and above; lows of 1 or more; and small
+/// tolerances.
+pub fn ranges(rng: &mut Rng, len: usize) -> [Vec<i64>; 2] {
+    let of = |rng: &mut Rng, kind| weights(rng, kind, len).expect("a kind").into_iter();
+    let pairs: Vec<[i64; 2]> = match rng.below(5) {
+        0 => any_weights(rng, len).into_iter().map(|w| [w, w]).collect(),
+        1 => {
+            let halves = |rng: &mut Rng| any_weights(rng, len).into_iter().map(|w| w / 2);
+            let both = halves(rng).zip(halves(rng));
+            both.map(|(a, b)| [a.min(b), a.max(b)]).collect()
+        }
+        2 => of(rng, "full").map(|w| [-w.abs(), w.abs()]).collect(),
+        3 => {
+            let each = LIMIT / len as i64;
+            let lows = of(rng, "positive");
+            lows.map(|w| [w, rng.within(w, each)]).collect()
+        }
+        _ => {
+            let lows = of(rng, "signed");
+            lows.map(|w| [w, w + rng.within(0, 3)]).collect()
+        }
+    };
+    [0, 1].map(|end| pairs.iter().map(|pair| pair[end]).collect())
+}
+
+/// A weight list within ranges: each weight anywhere, or at one of its ends.
+pub fn within(rng: &mut Rng, [lows, highs]: [&[i64]; 2]) -> Vec<i64> {
+    let at_ends = rng.chance(2);
+    let mut pick = |(&low, &high): (&i64, &i64)| match at_ends {
+        true => [low, high][rng.below(2)],
+        false => rng.within(low, high),
+    };
+    lows.iter().zip(highs).map(&mut pick).collect()
 }

@@ -15,7 +15,8 @@ use Rattle.definitions.specs.Repair.{area, raise}
 use Rattle.definitions.specs.DrawnPoints.{whole, snap}
 use Rattle.definitions.specs.Refusals.{labelsCall, forwardCall, backwardCall, repairCall}
 
--- each of a list of statements
+-- Each of a list of statements. Each is proved by a declaration of its own, here and in the other files of cases: under a `where` the prover would compute
+-- it more than once.
 infixr 5 _and_
 pub data Every : List (Type 0) → Type 1 where
   all-held : Every []
@@ -83,10 +84,18 @@ tetraAreas ws = map (area tetra (labels 4 tetra) (forward 4 tetra (labels 4 tetr
 abbrev pub P1 : Type 0
 P1 = labelsCall 3 0 pair (stale 3) (lentScratch 3) ≡ record { answer = done tt; labels = 0 ∷ 1 ∷ 2 ∷ []; scratch = clearedScratch 3 }
 
+p1 : P1
+unfolding labelsCall
+p1 = refl
+
 abbrev pub P2 : Type 0
 P2 =
     labelsCall 4 0 tetra (stale 9) (lentScratch 4)
     ≡ record { answer = done tt; labels = 0 ∷ 1 ∷ 2 ∷ 0 ∷ 1 ∷ 2 ∷ 0 ∷ 1 ∷ 2 ∷ []; scratch = clearedScratch 4 }
+
+p2 : P2
+unfolding labelsCall
+p2 = refl
 
 abbrev pub P3 : Type 0
 P3 =
@@ -96,6 +105,10 @@ P3 =
       labels = 0 ∷ 1 ∷ 2 ∷ 0 ∷ 1 ∷ 2 ∷ 0 ∷ 1 ∷ 2 ∷ 1 ∷ 2 ∷ 0 ∷ 2 ∷ 0 ∷ 1 ∷ [];
       scratch = clearedScratch 5;
     }
+
+p3 : P3
+unfolding labelsCall
+p3 = refl
 
 -- The outer vertices stand at their corners, N = 5.
 abbrev pub P4 : Type 0
@@ -109,12 +122,20 @@ P4 =
       scratch = clearedScratch 5;
     }
 
+p4 : P4
+unfolding forwardCall
+p4 = refl
+
 abbrev pub P5 : Type 0
 P5 =
     (forwardCall 4 0 tetra (pos 5 ∷ pos 3 ∷ pos 2 ∷ []) (lent 12) (lentScratch 4)
     ≡ record { answer = done tt; coordinates = tetraAt (pos 10) (pos 5) (pos 3) (pos 2); scratch = clearedScratch 4 })
     × (backwardCall 4 0 tetra (tetraAt (pos 10) (pos 5) (pos 3) (pos 2)) (lent 3) (lentScratch 4)
     ≡ record { answer = done tt; weights = pos 5 ∷ pos 3 ∷ pos 2 ∷ []; scratch = clearedScratch 4 })
+
+p5 : P5
+unfolding forwardCall backwardCall
+p5 = (refl, refl)
 
 abbrev pub P6 : Type 0
 P6 =
@@ -128,6 +149,10 @@ P6 =
       scratch = clearedScratch 4;
     })
 
+p6 : P6
+unfolding labels forward raise area repairCall
+p6 = (refl, refl, refl)
+
 abbrev pub P7 : Type 0
 P7 =
     repairCall 4 0 tetra (zeros 3) (lent 12) (lentScratch 4)
@@ -137,6 +162,10 @@ P7 =
       coordinates = tetraAt (pos 3) (pos 1) (pos 1) (pos 1);
       scratch = clearedScratch 4;
     }
+
+p7 : P7
+unfolding repairCall
+p7 = refl
 
 -- three raises since C-21, none before: N is below 1, so triangle 1 is raised first, though no triangle is flat or turned
 abbrev pub P8 : Type 0
@@ -151,49 +180,31 @@ P8 =
       scratch = clearedScratch 4;
     })
 
+p8 : P8
+unfolding labels forward area total repairCall
+p8 = (refl, refl, refl)
+
 abbrev pub P9 : Type 0
 P9 = (snap 4 half ≡ whole (pos 8)) × (snap 4 minusZero ≡ whole (pos 0))
+
+p9 : P9
+unfolding snap ofBits
+p9 = (refl, refl)
 
 -- at every scale; 0 since C-19, -1 before
 abbrev pub P10 : Type 0
 P10 = map (λ r. snap r justBelow) scales ≡ replicate 21 (whole (pos 0))
 
+p10 : P10
+unfolding snap ofBits
+p10 = refl
+
 abbrev pub P11 : Type 0
 P11 = snap 24 two ≡ whole (pos 33_554_432)
 
+p11 : P11
+unfolding snap ofBits
+p11 = refl
+
 pub checked-shells : Every (P1 ∷ P2 ∷ P3 ∷ P4 ∷ P5 ∷ P6 ∷ P7 ∷ P8 ∷ P9 ∷ P10 ∷ P11 ∷ [])
-unfolding labels forward raise area total snap labelsCall forwardCall backwardCall repairCall ofBits
 checked-shells = p1 and p2 and p3 and p4 and p5 and p6 and p7 and p8 and p9 and p10 and p11 and all-held
-  where
-    p1 : P1
-    p1 = refl
-
-    p2 : P2
-    p2 = refl
-
-    p3 : P3
-    p3 = refl
-
-    p4 : P4
-    p4 = refl
-
-    p5 : P5
-    p5 = (refl, refl)
-
-    p6 : P6
-    p6 = (refl, refl, refl)
-
-    p7 : P7
-    p7 = refl
-
-    p8 : P8
-    p8 = (refl, refl, refl)
-
-    p9 : P9
-    p9 = (refl, refl)
-
-    p10 : P10
-    p10 = refl
-
-    p11 : P11
-    p11 = refl

@@ -34,6 +34,10 @@ Formulas =
     × Formula true true false (minus 7)
     × Formula true true true (pos 860)
 
+formulas : Formulas
+unfolding eightCases coordinate
+formulas = (refl, refl, refl, refl, refl, refl, refl, refl)
+
 -- ---- directions
 
 -- `LabelCases` has the colours of `mixed`. Its inner sides run 5 to 1, 0 to 1, 0 to 3, 5 to 4, 2 to 0, 0 to 5, 5 to 2, 2 to 3 and 2 to 4: darts 3, 7, 10, 14,
@@ -46,6 +50,10 @@ Directions =
     Runs (λ d. false) (3 ∷ 7 ∷ 10 ∷ 14 ∷ 15 ∷ 16 ∷ 17 ∷ 18 ∷ 21 ∷ [])
     × Runs (λ d. true) (0 ∷ 1 ∷ 2 ∷ 3 ∷ 4 ∷ 7 ∷ 10 ∷ 11 ∷ 14 ∷ 15 ∷ 16 ∷ 17 ∷ 18 ∷ 21 ∷ 22 ∷ [])
     × Runs (eqb 11) (3 ∷ 7 ∷ 10 ∷ 11 ∷ 14 ∷ 15 ∷ 16 ∷ 17 ∷ 18 ∷ 21 ∷ [])
+
+directions : Directions
+unfolding filter runs darts
+directions = (refl, refl, refl)
 
 -- ---- weights
 
@@ -71,6 +79,10 @@ AllRim =
     × Seven true true false
     × Seven true true true
 
+allRim : AllRim
+unfolding backwardByCases
+allRim = (refl, refl, refl, refl, refl, refl, refl, refl)
+
 -- Without row 11 the way that a rim side is counted tells: v1 at (1, 6, 0), 7 - 1 and 7 - 0. Without row 12 a case is not document 01's weight: on the tetra
 -- with N = 9 and vertex 3 at (3, 5, 2), triangle 3 has 2 - 0 by its case and 9 - 3 - 5 by document 01.
 abbrev offSum : List ℤ
@@ -86,6 +98,10 @@ RowsNeeded =
     × (backwardByCases (λ d. false) tetra tetraLabels offSum ≡ pos 5 ∷ pos 3 ∷ pos 2 ∷ [])
     × (backward tetra tetraLabels offSum ≡ pos 5 ∷ pos 3 ∷ pos 1 ∷ [])
 
+rowsNeeded : RowsNeeded
+unfolding backwardByCases backward
+rowsNeeded = (refl, refl, refl, refl)
+
 -- by eight cases, the rim counted either way, and by document 01
 abbrev Weights : List ℕ → List ℕ → List ℤ → List ℤ → Type 0
 Weights ts ls bs ws =
@@ -99,6 +115,10 @@ MixedWeights =
     Weights mixed mixedLabels (placed (pos 20) (pos 3) (pos 7) (pos 10) (pos 9) (pos 5) (pos 6) (pos 4) (pos 1) (pos 15))
     (pos 1 ∷ pos 6 ∷ pos 3 ∷ pos 9 ∷ minus 11 ∷ pos 6 ∷ pos 6 ∷ [])
 
+mixedWeights : MixedWeights
+unfolding backwardByCases backward
+mixedWeights = (refl, refl, refl)
+
 -- v0 = 0, v1 = 1, v2 = 2. N = 20, vertex 3 at (7, 2, 11), 4 at (8, 7, 5), 5 at (3, 9, 8). (0,3,2) FT*, 2 - 0. (3,5,2) TTF, 7 - 3. (5,1,2) T*F, 3 - 0.
 -- (0,4,3) FTT, 7 - 2. (4,5,3) FFF, 20 - 7 - 7 - 8. (4,1,5) TFT, 8 - 5. (0,1,4) *FT, 5 - 0.
 abbrev SixWeights : Type 0
@@ -108,25 +128,10 @@ SixWeights =
     (pos 20 ∷ o ∷ o ∷ o ∷ pos 20 ∷ o ∷ o ∷ o ∷ pos 20 ∷ pos 7 ∷ pos 2 ∷ pos 11 ∷ pos 8 ∷ pos 7 ∷ pos 5 ∷ pos 3 ∷ pos 9 ∷ pos 8 ∷ [])
     (pos 2 ∷ pos 4 ∷ pos 3 ∷ pos 5 ∷ minus 2 ∷ pos 3 ∷ pos 5 ∷ [])
 
+sixWeights : SixWeights
+unfolding backwardByCases backward
+sixWeights = (refl, refl, refl)
+
 pub direction-cases : Every (Formulas ∷ Directions ∷ AllRim ∷ RowsNeeded ∷ MixedWeights ∷ SixWeights ∷ [])
-unfolding eightCases coordinate filter runs darts backwardByCases backward
 direction-cases =
     formulas and directions and allRim and rowsNeeded and mixedWeights and sixWeights and all-held
-  where
-    formulas : Formulas
-    formulas = (refl, refl, refl, refl, refl, refl, refl, refl)
-
-    directions : Directions
-    directions = (refl, refl, refl)
-
-    allRim : AllRim
-    allRim = (refl, refl, refl, refl, refl, refl, refl, refl)
-
-    rowsNeeded : RowsNeeded
-    rowsNeeded = (refl, refl, refl, refl)
-
-    mixedWeights : MixedWeights
-    mixedWeights = (refl, refl, refl)
-
-    sixWeights : SixWeights
-    sixWeights = (refl, refl, refl)

@@ -33,11 +33,19 @@ sixLabels = 0 ∷ 1 ∷ 2 ∷ 0 ∷ 1 ∷ 2 ∷ 0 ∷ 1 ∷ 2 ∷ 2 ∷ 0 ∷ 1 
 abbrev SmallestFirst : Type 0
 SmallestFirst = labelsCall 6 0 six (stale 21) (lentScratch 6) ≡ record { answer = done tt; labels = sixLabels; scratch = clearedScratch 6 }
 
+smallestFirst : SmallestFirst
+unfolding labelsCall
+smallestFirst = refl
+
 -- v0 = 1 and v1 = 0 are smaller than v2 = 2, and both stay: 2 at v2, 0 at v0, 1 at v1.
 abbrev EndsStay : Type 0
 EndsStay =
     labelsCall 3 0 (1 ∷ 2 ∷ 0 ∷ 2 ∷ 1 ∷ 0 ∷ []) (stale 3) (lentScratch 3)
     ≡ record { answer = done tt; labels = 2 ∷ 0 ∷ 1 ∷ []; scratch = clearedScratch 3 }
+
+endsStay : EndsStay
+unfolding labelsCall
+endsStay = refl
 
 -- ---- a shell with v0 = 5, v1 = 1 and v2 = 3: a long frontier
 
@@ -62,6 +70,10 @@ LongFrontier =
       labels = 0 ∷ 1 ∷ 2 ∷ 0 ∷ 1 ∷ 2 ∷ 0 ∷ 1 ∷ 2 ∷ 0 ∷ 1 ∷ 2 ∷ 2 ∷ 0 ∷ 1 ∷ 2 ∷ 0 ∷ 1 ∷ 2 ∷ 0 ∷ 1 ∷ [];
       scratch = clearedScratch 6;
     }
+
+longFrontier : LongFrontier
+unfolding labelsCall
+longFrontier = refl
 
 -- ---- a shell with v0 = 4, v1 = 3 and v2 = 1
 
@@ -104,6 +116,10 @@ Choices =
     × (start mixed ≡ begun)
     × (map (nextRemovable mixed) (begun ∷ afterOne ∷ afterTwo ∷ afterThree ∷ ended ∷ []) ≡ some 1 ∷ some 0 ∷ some 5 ∷ some 2 ∷ none ∷ [])
 
+choices : Choices
+unfolding outer start nextRemovable
+choices = (refl, refl, refl)
+
 -- u1 .. uk
 abbrev Fans : Type 0
 Fans =
@@ -112,10 +128,18 @@ Fans =
     × (map (tip mixed) (fan mixed afterTwo 5) ≡ 4 ∷ 2 ∷ [])
     × (map (tip mixed) (fan mixed afterThree 2) ≡ 4 ∷ 3 ∷ [])
 
+fans : Fans
+unfolding tip fan
+fans = (refl, refl, refl, refl)
+
 abbrev Steps : Type 0
 Steps =
     (map (step mixed) (begun ∷ afterOne ∷ afterTwo ∷ afterThree ∷ ended ∷ []) ≡ afterOne ∷ afterTwo ∷ afterThree ∷ ended ∷ ended ∷ [])
     × (peel mixed 6 ≡ ended)
+
+steps : Steps
+unfolding step peel
+steps = (refl, refl)
 
 -- the labels that these steps give, in listed order
 abbrev pub mixedLabels : List ℕ
@@ -123,6 +147,10 @@ mixedLabels = 1 ∷ 2 ∷ 0 ∷ 0 ∷ 1 ∷ 2 ∷ 2 ∷ 0 ∷ 1 ∷ 0 ∷ 1 ∷ 
 
 abbrev Mixed : Type 0
 Mixed = labelsCall 6 0 mixed (stale 21) (lentScratch 6) ≡ record { answer = done tt; labels = mixedLabels; scratch = clearedScratch 6 }
+
+mixedLabelled : Mixed
+unfolding labelsCall
+mixedLabelled = refl
 
 -- ---- colours
 
@@ -138,38 +166,18 @@ Colours =
     × Coloured 1 (1 ∷ 10 ∷ 17 ∷ 18 ∷ 22 ∷ [])
     × Coloured 2 (0 ∷ 3 ∷ 7 ∷ 11 ∷ 15 ∷ [])
 
+colours : Colours
+unfolding filter points darts
+colours = (refl, refl, refl)
+
 -- the rim sides, from the outer triangle (darts 0, 1, 2) and from the inner ones (1 to 4, 3 to 1, 4 to 3)
 abbrev Rim : Type 0
 Rim = filter (rim mixed) (darts mixed) ≡ 0 ∷ 1 ∷ 2 ∷ 4 ∷ 11 ∷ 22 ∷ []
 
+rimSides : Rim
+unfolding filter rim darts
+rimSides = refl
+
 pub label-cases : Every (SmallestFirst ∷ EndsStay ∷ LongFrontier ∷ Choices ∷ Fans ∷ Steps ∷ Mixed ∷ Colours ∷ Rim ∷ [])
-unfolding labelsCall outer start nextRemovable tip fan step peel filter points rim darts
 label-cases =
-    smallestFirst and endsStay and longFrontier and choices and fans and steps and mixed and colours and rim and all-held
-  where
-    smallestFirst : SmallestFirst
-    smallestFirst = refl
-
-    endsStay : EndsStay
-    endsStay = refl
-
-    longFrontier : LongFrontier
-    longFrontier = refl
-
-    choices : Choices
-    choices = (refl, refl, refl)
-
-    fans : Fans
-    fans = (refl, refl, refl, refl)
-
-    steps : Steps
-    steps = (refl, refl)
-
-    mixed : Mixed
-    mixed = refl
-
-    colours : Colours
-    colours = (refl, refl, refl)
-
-    rim : Rim
-    rim = refl
+    smallestFirst and endsStay and longFrontier and choices and fans and steps and mixedLabelled and colours and rimSides and all-held

@@ -23,4 +23,5 @@ pub mod RepairCases
 pub mod PointCases
 pub mod RefusalCases
 pub mod OuterCases
+pub mod RangeCases
 pub mod TextCases

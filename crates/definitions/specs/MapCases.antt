@@ -23,15 +23,27 @@ Walk t ds = walk mixed mixedLabels 8 t ≡ ds
 abbrev Paths0 : Type 0
 Paths0 = Path 0 0 (16 ∷ 14 ∷ []) × Path 0 5 (14 ∷ []) × Path 0 2 (21 ∷ []) × Path 0 3 (2 ∷ []) × Path 0 1 (4 ∷ []) × Path 0 4 []
 
+paths0 : Paths0
+unfolding path
+paths0 = (refl, refl, refl, refl, refl, refl)
+
 -- colour 1, to v1 = 3: 5 by 2, and 0 and 2 by one side; v0 and v2 along the rim
 abbrev Paths1 : Type 0
 Paths1 = Path 1 5 (17 ∷ 18 ∷ []) × Path 1 0 (10 ∷ []) × Path 1 2 (18 ∷ []) × Path 1 4 (22 ∷ []) × Path 1 1 (1 ∷ []) × Path 1 3 []
+
+paths1 : Paths1
+unfolding path
+paths1 = (refl, refl, refl, refl, refl, refl)
 
 -- (5,1,4) has 2 at 1: over 4 to 5 into (4,2,5), which has 2 at 5: over 4 to 2 into (2,4,3), which has 2 at 2: over 4 to 3 into the outer one.
 -- (5,0,1) has 2 at 1: over 5 to 0 into (2,0,5), which has 2 at 0: over 5 to 2 into (4,2,5). (1,0,3) has 2 at 1: over 0 to 3 into (2,3,0), which has
 -- 2 at 0: over 2 to 3 into (2,4,3).
 abbrev Walks : Type 0
 Walks = Walk 1 (5 ∷ 12 ∷ 22 ∷ []) × Walk 2 (6 ∷ 17 ∷ 12 ∷ 22 ∷ []) × Walk 3 (10 ∷ 18 ∷ 22 ∷ []) × Walk 7 (22 ∷ []) × Walk 0 []
+
+walks : Walks
+unfolding walk
+walks = (refl, refl, refl, refl, refl)
 
 -- ---- coordinates and weights
 
@@ -53,6 +65,10 @@ PowersOf2 =
       scratch = clearedScratch 6;
     }
 
+powersOf2 : PowersOf2
+unfolding forwardCall
+powersOf2 = refl
+
 -- The same weights. The colour-0 path of 4 has three sides, by 2 and 0 to v0; the colour-1 paths are single sides to v1. The sides that the walks cross: 0-5
 -- triangle 1; 0-2 triangle 2; 2-4 triangle 3; 1-4 triangle 4; 1-2 triangles 3, 4, 5; 0-1 triangles 2 to 6. Vertex 0 has b0 = 2 + 4 + 8 + 16 + 32 and b1 = 1,
 -- vertex 2 has 4 + 8 + 16 and 2 + 1, vertex 4 has 8 and 4 + 2 + 1.
@@ -72,6 +88,10 @@ LongPath =
       scratch = clearedScratch 6;
     }
 
+longPath : LongPath
+unfolding forwardCall
+longPath = refl
+
 -- N = 10, vertex 0 at (1, 4, 5), 2 at (4, 1, 5), 5 at (2, 3, 5). The s of colour 0: 0 to 5 has 4 - 3, 5 to 4 has 3, 2 to 4 has 1, 3 to 4 has 10. The s of
 -- colour 1: 0 to 3 has 1, 5 to 2 has 2 - 4, 2 to 3 has 4. Every other s is 0. So the weights are 3, 1, 1, 1 - 3 + 2, -2 - 1, 4 - 1, 10 - 1 - 4.
 abbrev Signed : Type 0
@@ -82,6 +102,10 @@ Signed =
       weights = pos 3 ∷ pos 1 ∷ pos 1 ∷ pos 0 ∷ minus 3 ∷ pos 3 ∷ pos 5 ∷ [];
       scratch = clearedScratch 6;
     }
+
+signed : Signed
+unfolding backwardCall
+signed = refl
 
 -- N = 0, where v0, v1 and v2 are all at (0, 0, 0), and N = -3. C-21 leaves forward and backward as they are: the tetra's weights a, b, c put vertex 3 at
 -- (b, a, c), and come back.
@@ -94,28 +118,10 @@ BothWays N a b c =
 abbrev AnyTotal : Type 0
 AnyTotal = BothWays (pos 0) (pos 2) (minus 3) (pos 1) × BothWays (minus 3) (minus 1) (minus 1) (minus 1)
 
+anyTotal : AnyTotal
+unfolding forwardCall backwardCall
+anyTotal = ((refl, refl), (refl, refl))
+
 pub map-cases : Every (Paths0 ∷ Paths1 ∷ Walks ∷ PowersOf2 ∷ LongPath ∷ Signed ∷ AnyTotal ∷ [])
-unfolding path walk forwardCall backwardCall
 map-cases =
     paths0 and paths1 and walks and powersOf2 and longPath and signed and anyTotal and all-held
-  where
-    paths0 : Paths0
-    paths0 = (refl, refl, refl, refl, refl, refl)
-
-    paths1 : Paths1
-    paths1 = (refl, refl, refl, refl, refl, refl)
-
-    walks : Walks
-    walks = (refl, refl, refl, refl, refl)
-
-    powersOf2 : PowersOf2
-    powersOf2 = refl
-
-    longPath : LongPath
-    longPath = refl
-
-    signed : Signed
-    signed = refl
-
-    anyTotal : AnyTotal
-    anyTotal = ((refl, refl), (refl, refl))

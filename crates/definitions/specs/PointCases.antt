@@ -62,6 +62,10 @@ Scales =
     × (map (λ r. snapCall 3 (replicate 6 half) r (lent 9)) (1 ∷ 2 ∷ 3 ∷ [])
     ≡ replicate 3 (record { answer = refused (numbered 14); coordinates = lent 9 }))
 
+scales : Scales
+unfolding snapCall ofBits
+scales = (refl, refl)
+
 -- ---- shares
 
 -- the points (-2, 2), (2, -2) and (-0.25, -0.25), at a scale
@@ -76,6 +80,10 @@ Edges =
       answer = done tt;
       coordinates = minus 32 ∷ pos 32 ∷ pos 16 ∷ pos 32 ∷ minus 32 ∷ pos 16 ∷ minus 4 ∷ minus 4 ∷ pos 24 ∷ [];
     }
+
+edges : Edges
+unfolding snapCall ofBits
+edges = refl
 
 -- C-17. At scale 0, which stands for 20: 2 ^ 16 times as much. At scale 16: 2 ^ 12 times as much, as at scale 0 while that stood for 16.
 abbrev ScaleZero : Type 0
@@ -93,6 +101,10 @@ ScaleZero =
       coordinates =
           minus 131072 ∷ pos 131072 ∷ pos 65536 ∷ pos 131072 ∷ minus 131072 ∷ pos 65536 ∷ minus 16384 ∷ minus 16384 ∷ pos 98304 ∷ [];
     })
+
+scale-zero : ScaleZero
+unfolding snapCall ofBits
+scale-zero = (refl, refl)
 
 -- ---- the nearest whole number (C-19)
 
@@ -118,6 +130,10 @@ halves = 0x3fa0_0000_0000_0000 ∷ 0x3fb8_0000_0000_0000 ∷ 0x3fc4_0000_0000_00
 abbrev Halves : Type 0
 Halves = (snapBits 4 halves ≡ wholes (0 ∷ 2 ∷ 2 ∷ 4 ∷ [])) × (snapMinus 4 halves ≡ minusWholes (0 ∷ 2 ∷ 2 ∷ 4 ∷ []))
 
+on-halves : Halves
+unfolding snap ofBits
+on-halves = (refl, refl)
+
 -- The shares next to them, one unit in the last place smaller or larger in size: they go to the number below and to the number above.
 abbrev BesideHalves : Type 0
 BesideHalves =
@@ -125,6 +141,10 @@ BesideHalves =
     × (snapBits 4 (map (λ b. b + 1) halves) ≡ wholes (1 ∷ 2 ∷ 3 ∷ 4 ∷ []))
     × (snapMinus 4 (map (λ b. b - 1) halves) ≡ minusWholes (0 ∷ 1 ∷ 2 ∷ 3 ∷ []))
     × (snapMinus 4 (map (λ b. b + 1) halves) ≡ minusWholes (1 ∷ 2 ∷ 3 ∷ 4 ∷ []))
+
+beside-halves : BesideHalves
+unfolding snap ofBits
+beside-halves = (refl, refl, refl, refl)
 
 -- 1 + 2 ^ -25 and 1 + 3 * 2 ^ -25: at scale 24 they are 2 ^ 24 + 0.5 and 2 ^ 24 + 1.5.
 abbrev fineHalves : List ℕ
@@ -136,6 +156,10 @@ FineHalves =
     × (snapBits 24 (map (λ b. b - 1) fineHalves) ≡ wholes (16777216 ∷ 16777217 ∷ []))
     × (snapBits 24 (map (λ b. b + 1) fineHalves) ≡ wholes (16777217 ∷ 16777218 ∷ []))
     × (snapMinus 24 fineHalves ≡ minusWholes (16777216 ∷ 16777218 ∷ []))
+
+fine-halves : FineHalves
+unfolding snap ofBits
+fine-halves = (refl, refl, refl, refl)
 
 -- 0, the least share above 0 (5e-324), the largest without a leading digit, the least with one; 1.75, and the largest below 2
 abbrev ends : List ℕ
@@ -149,6 +173,10 @@ Ends =
     × (snapBits 24 ends ≡ wholes (0 ∷ 0 ∷ 0 ∷ 0 ∷ 29360128 ∷ 33554432 ∷ []))
     × (snapMinus 24 ends ≡ minusWholes (0 ∷ 0 ∷ 0 ∷ 0 ∷ 29360128 ∷ 33554432 ∷ []))
 
+at-ends : Ends
+unfolding snap ofBits
+at-ends = (refl, refl, refl, refl)
+
 -- At scale 4 the points (5/32, 5/32), (-5/32, 7/32) and (7/32, 7/32). The third coordinate is 16 less the two others: it is not snapped itself, which
 -- would make 11, 15 and 9 of the shares 22/32, 30/32 and 18/32.
 abbrev ThirdOfHalves : Type 0
@@ -159,12 +187,20 @@ ThirdOfHalves =
       coordinates = pos 2 ∷ pos 2 ∷ pos 12 ∷ minus 2 ∷ pos 4 ∷ pos 14 ∷ pos 4 ∷ pos 4 ∷ pos 8 ∷ [];
     }
 
+third-of-halves : ThirdOfHalves
+unfolding snapCall ofBits
+third-of-halves = refl
+
 -- ---- shares that are refused
 
 abbrev Outside : Type 0
 Outside =
     map (snap 4) (belowMinusTwo ∷ minusTwoAndHalf ∷ three ∷ four ∷ largest ∷ minusInfinite ∷ [])
     ≡ beyond belowMinusTwo ∷ beyond minusTwoAndHalf ∷ beyond three ∷ beyond four ∷ beyond largest ∷ notFinite ∷ []
+
+outside : Outside
+unfolding snap ofBits
+outside = refl
 
 -- ---- the order of shares
 
@@ -184,39 +220,12 @@ ShareByShare =
     × PointsRefused half half half half half minusTwoAndHalf (shareOutside minusTwoAndHalf)
     × PointsRefused half half half half noNumber twoAndHalf (numbered 15)
 
+share-by-share : ShareByShare
+unfolding snapCall ofBits
+share-by-share = (refl, refl, refl, refl, refl, refl, refl)
+
 pub point-cases :
     Every (Scales ∷ Edges ∷ ScaleZero ∷ Halves ∷ BesideHalves ∷ FineHalves ∷ Ends ∷ ThirdOfHalves ∷ Outside ∷ ShareByShare ∷ [])
-unfolding snap snapCall ofBits
 point-cases =
     scales and edges and scale-zero and on-halves and beside-halves and fine-halves and at-ends and third-of-halves and outside and share-by-share
     and all-held
-  where
-    scales : Scales
-    scales = (refl, refl)
-
-    edges : Edges
-    edges = refl
-
-    scale-zero : ScaleZero
-    scale-zero = (refl, refl)
-
-    on-halves : Halves
-    on-halves = (refl, refl)
-
-    beside-halves : BesideHalves
-    beside-halves = (refl, refl, refl, refl)
-
-    fine-halves : FineHalves
-    fine-halves = (refl, refl, refl, refl)
-
-    at-ends : Ends
-    at-ends = (refl, refl, refl, refl)
-
-    third-of-halves : ThirdOfHalves
-    third-of-halves = refl
-
-    outside : Outside
-    outside = refl
-
-    share-by-share : ShareByShare
-    share-by-share = (refl, refl, refl, refl, refl, refl, refl)

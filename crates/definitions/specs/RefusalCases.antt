@@ -60,6 +60,10 @@ Vertices =
     × SnapRefuses 4097 [] 4 (lent 1) 1
     × SnapRefuses 4096 [] 4 (lent 1) 2
 
+vertices : Vertices
+unfolding checkCall labelsCall forwardCall backwardCall repairCall snapCall
+vertices = (refl, refl, refl, refl, refl, refl, refl, refl, refl)
+
 -- k words of scratch are 2 in each call on a mesh, while the other slices have their lengths
 abbrev OtherScratch : ℕ → Type 0
 OtherScratch k =
@@ -76,6 +80,15 @@ ScratchWords =
     × OtherScratch 31
     × OtherScratch 72
     × (checkCall 3 0 pair (lent 30) ≡ record { answer = done tt; scratch = zeros 30 })
+
+scratch-words : ScratchWords
+unfolding checkCall labelsCall forwardCall backwardCall repairCall
+scratch-words = (
+  (refl, refl, refl, refl, refl),
+  (refl, refl, refl, refl, refl),
+  (refl, refl, refl, refl, refl),
+  refl,
+)
 
 -- each other slice of each call, an item too short or too long, while the rest have their lengths
 abbrev Lengths : Type 0
@@ -95,6 +108,10 @@ Lengths =
     × SnapRefuses 3 (replicate 6 zeroShare) 4 (lent 8) 2
     × SnapRefuses 3 (replicate 6 zeroShare) 4 (lent 10) 2
 
+lengths : Lengths
+unfolding checkCall labelsCall forwardCall backwardCall repairCall snapCall ofBits
+lengths = (refl, refl, refl, refl, refl, refl, refl, refl, refl, refl, refl, refl, refl, refl)
+
 -- ---- the order of the rows
 
 -- Meshes in which two rows find something. A wrong length, and vertex 7: 2. A vertex twice in the first triangle, and vertex 3 of n = 3 in the second: 3.
@@ -104,6 +121,10 @@ MeshOrder =
     CheckRefuses 3 (0 ∷ 2 ∷ 7 ∷ []) (lentScratch 3) 2 (lentScratch 3)
     × CheckRefuses 3 (0 ∷ 0 ∷ 1 ∷ 0 ∷ 1 ∷ 3 ∷ []) (lentScratch 3) 3 (clearedScratch 3)
     × CheckRefuses 3 (0 ∷ 1 ∷ 2 ∷ 0 ∷ 0 ∷ 1 ∷ []) (lentScratch 3) 4 (clearedScratch 3)
+
+mesh-order : MeshOrder
+unfolding checkCall
+mesh-order = (refl, refl, refl)
 
 -- one triangle twice
 abbrev twice : List ℕ
@@ -117,6 +138,10 @@ MeshFirst =
     × BackwardRefuses 3 twice (replicate 9 (pos (L + 1))) (lent 1) (lentScratch 3) 5 (clearedScratch 3)
     × RepairRefuses 3 twice (pos (L + 1) ∷ []) (lent 9) (lentScratch 3) 5 (clearedScratch 3)
     × RepairRefuses 3 twice (pos 0 ∷ []) (lent 9) (lentScratch 3) 5 (clearedScratch 3)
+
+mesh-first : MeshFirst
+unfolding labelsCall forwardCall backwardCall repairCall
+mesh-first = (refl, refl, refl, refl, refl)
 
 -- coordinates of the tetra that backward refuses
 abbrev Backs : List ℤ → ℕ → Type 0
@@ -148,12 +173,20 @@ BackwardOrder =
     × Backs (tetraAt (pos L) (minus L) (pos L) (pos 0)) 12
     × Backs (tetraAt (pos L) (minus L) (pos L) (pos L)) 9
 
+backward-order : BackwardOrder
+unfolding backwardCall
+backward-order = (refl, refl, refl, refl)
+
 -- snapping: 1 before 2, 2 before 14, 14 before 15
 abbrev SnapOrder : Type 0
 SnapOrder =
     SnapRefuses 2 [] 25 (lent 1) 1
     × SnapRefuses 3 (replicate 5 noNumber) 25 (lent 9) 2
     × SnapRefuses 3 (replicate 6 noNumber) 25 (lent 9) 14
+
+snap-order : SnapOrder
+unfolding snapCall ofBits
+snap-order = (refl, refl, refl)
 
 -- ---- 9 and 10
 
@@ -169,6 +202,10 @@ WeightLimit =
     × ForwardRefuses 4 tetra (minus (2 ^ 63) ∷ pos 0 ∷ pos 0 ∷ []) (lent 12) (lentScratch 4) 9 (clearedScratch 4)
     × RepairRefuses 4 tetra (pos 1_073_741_820 ∷ minus 9 ∷ pos 0 ∷ []) (lent 12) (lentScratch 4) 9 (clearedScratch 4)
 
+weight-limit : WeightLimit
+unfolding forwardCall repairCall
+weight-limit = (refl, refl, refl, refl, refl)
+
 -- L and -L pass: they are N and b1 of vertex 3, so the first weight. -L - 1 does not, at the first place and at the last.
 abbrev CoordinateLimit : Type 0
 CoordinateLimit =
@@ -178,6 +215,10 @@ CoordinateLimit =
     ≡ record { answer = done tt; weights = minus L ∷ pos 0 ∷ pos 0 ∷ []; scratch = clearedScratch 4 })
     × Backs (minus 1_073_741_824 ∷ zeros 11) 10
     × Backs (zeros 11 ++ (minus 1_073_741_824 ∷ [])) 10
+
+coordinate-limit : CoordinateLimit
+unfolding backwardCall
+coordinate-limit = (refl, refl, refl, refl)
 
 -- ---- 11 and 12
 
@@ -193,6 +234,10 @@ Corners =
     × OuterAt corner0 corner1 (at (pos 0) (minus 1) (pos 9)) 11
     × OuterAt corner0 corner1 (at (pos 0) (pos 0) (pos 10)) 11
 
+corners : Corners
+unfolding backwardCall
+corners = (refl, refl, refl, refl, refl, refl, refl, refl)
+
 -- The outer triangle (2, 1, 0) says that v0 is 2, v2 is 1 and v1 is 0. N = 5.
 abbrev renumbered : List ℕ
 renumbered = 2 ∷ 1 ∷ 0 ∷ 2 ∷ 0 ∷ 1 ∷ []
@@ -207,6 +252,10 @@ NamedCorners =
     × BackwardRefuses 3 renumbered (at (pos 5) (pos 0) (pos 0) ++ at (pos 0) (pos 5) (pos 0) ++ at (pos 0) (pos 0) (pos 5)) (lent 1)
     (lentScratch 3) 11 (clearedScratch 3)
 
+named-corners : NamedCorners
+unfolding backwardCall
+named-corners = (refl, refl)
+
 -- a sum below N, at the last vertex and at the one before it (P4 has vertex 3 at (1, 1, 3))
 abbrev Sums : Type 0
 Sums =
@@ -214,6 +263,10 @@ Sums =
     × BackwardRefuses 5 five
     (at (pos 5) (pos 0) (pos 0) ++ at (pos 0) (pos 5) (pos 0) ++ at (pos 0) (pos 0) (pos 5) ++ at (pos 1) (pos 1) (pos 2) ++ at (pos 2) (pos 2) (pos 1))
     (lent 5) (lentScratch 5) 12 (clearedScratch 5)
+
+sums : Sums
+unfolding backwardCall
+sums = (refl, refl)
 
 -- ---- what a refusal carries beside its number
 
@@ -226,6 +279,10 @@ Numbers =
     × (number (shareOutside noNumber) ≡ 16)
     × (number (lineBroken 2) ≡ 17)
 
+numbers : Numbers
+unfolding ofBits
+numbers = (refl, refl, refl, refl, refl, refl)
+
 -- ---- what is accepted
 
 -- The tetra is. No vertices and no triangles break 1 alone, the torus on 7 vertices, which has 14 triangles and not 10, 2 alone, and one triangle twice
@@ -233,12 +290,20 @@ Numbers =
 abbrev Meshes : Type 0
 Meshes = Accepted 4 tetra × (¬ Accepted 0 []) × (¬ Accepted 7 (map (λ v. v - 4) torus)) × (¬ Accepted 3 twice)
 
+meshes : Meshes
+unfolding checkCall
+meshes = ((refl, refl, refl), λ a. true≢false (a .0), λ a. omega (arith, a .1), λ a. Option·some-ne-none (numbered 5) (a .2))
+
 -- Three weights of the tetra whose absolute values sum to L are. Two weights are not, and a sum of L + 1 is not.
 abbrev Weights : Type 0
 Weights =
     AcceptedWeights 4 (pos 1_073_741_822 ∷ pos 0 ∷ minus 1 ∷ [])
     × (¬ AcceptedWeights 4 (pos 5 ∷ pos 3 ∷ []))
     × (¬ AcceptedWeights 4 (pos 1_073_741_823 ∷ pos 0 ∷ minus 1 ∷ []))
+
+weights : Weights
+unfolding forwardCall
+weights = ((refl, refl), λ a. omega (arith, a .0), λ a. true≢false (a .1))
 
 abbrev AcceptedAt : List ℤ → Type 0
 AcceptedAt bs = AcceptedCoordinates 4 tetra (0 ∷ 1 ∷ 2 ∷ 0 ∷ 1 ∷ 2 ∷ 0 ∷ 1 ∷ 2 ∷ []) bs
@@ -256,72 +321,22 @@ Coordinates =
     × (¬ AcceptedAt (tetraAt (pos 9) (pos 5) (pos 3) (pos 2)))
     × (¬ AcceptedAt (tetraAt (pos L) (minus L) (pos L) (pos L)))
 
+coordinates : Coordinates
+unfolding backwardCall
+coordinates = (
+  (refl, refl, refl, refl, refl),
+  (refl, refl, refl, refl, refl),
+  λ a. omega (arith, a .0),
+  λ a. true≢false (a .1),
+  λ a. true≢false (a .2),
+  λ a. true≢false (a .3),
+  λ a. true≢false (a .4),
+)
+
 pub refusal-cases :
     Every
     (Vertices ∷ ScratchWords ∷ Lengths ∷ MeshOrder ∷ MeshFirst ∷ BackwardOrder ∷ SnapOrder ∷ WeightLimit ∷ CoordinateLimit ∷ Corners
     ∷ NamedCorners ∷ Sums ∷ Numbers ∷ Meshes ∷ Weights ∷ Coordinates ∷ [])
-unfolding checkCall labelsCall forwardCall backwardCall repairCall snapCall ofBits
 refusal-cases =
     vertices and scratch-words and lengths and mesh-order and mesh-first and backward-order and snap-order and weight-limit and coordinate-limit
     and corners and named-corners and sums and numbers and meshes and weights and coordinates and all-held
-  where
-    vertices : Vertices
-    vertices = (refl, refl, refl, refl, refl, refl, refl, refl, refl)
-
-    scratch-words : ScratchWords
-    scratch-words = (
-      (refl, refl, refl, refl, refl),
-      (refl, refl, refl, refl, refl),
-      (refl, refl, refl, refl, refl),
-      refl,
-    )
-
-    lengths : Lengths
-    lengths = (refl, refl, refl, refl, refl, refl, refl, refl, refl, refl, refl, refl, refl, refl)
-
-    mesh-order : MeshOrder
-    mesh-order = (refl, refl, refl)
-
-    mesh-first : MeshFirst
-    mesh-first = (refl, refl, refl, refl, refl)
-
-    backward-order : BackwardOrder
-    backward-order = (refl, refl, refl, refl)
-
-    snap-order : SnapOrder
-    snap-order = (refl, refl, refl)
-
-    weight-limit : WeightLimit
-    weight-limit = (refl, refl, refl, refl, refl)
-
-    coordinate-limit : CoordinateLimit
-    coordinate-limit = (refl, refl, refl, refl)
-
-    corners : Corners
-    corners = (refl, refl, refl, refl, refl, refl, refl, refl)
-
-    named-corners : NamedCorners
-    named-corners = (refl, refl)
-
-    sums : Sums
-    sums = (refl, refl)
-
-    numbers : Numbers
-    numbers = (refl, refl, refl, refl, refl, refl)
-
-    meshes : Meshes
-    meshes = ((refl, refl, refl), λ a. true≢false (a .0), λ a. omega (arith, a .1), λ a. Option·some-ne-none (numbered 5) (a .2))
-
-    weights : Weights
-    weights = ((refl, refl), λ a. omega (arith, a .0), λ a. true≢false (a .1))
-
-    coordinates : Coordinates
-    coordinates = (
-      (refl, refl, refl, refl, refl),
-      (refl, refl, refl, refl, refl),
-      λ a. omega (arith, a .0),
-      λ a. true≢false (a .1),
-      λ a. true≢false (a .2),
-      λ a. true≢false (a .3),
-      λ a. true≢false (a .4),
-    )

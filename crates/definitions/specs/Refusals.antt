@@ -1,21 +1,21 @@
 -- Document 01, "Refusals and what stays": the whole outcome of each public call on lent slices, for every input: its answer, and what every lent
 -- slice that it may write holds at the end. Definitions only. (Slices that a call only reads do not change: it has them by `&`.)
-use Prim.Native.Nat.{ℕ, _*_, _-_}
+use Prim.Native.Nat.{ℕ, _*_, _-_, _≤_}
 use mathlib.Core.Path.{_≡_}
 use mathlib.Core.Bool.{Bool, false, not, _&&_, _||_, cond}
 use mathlib.Core.List.{List, [], _∷_, _++_, map}
 use mathlib.Core.Option.{Option, none, some}
 use lib.Dec.{leb, ltb, eqb}
-use lib.ListN.{length}
+use lib.ListN.{length, getD}
 use lib.IntN.{ℤ, pos, natAbs, _+ℤ_}
-use lib.Signed.{leZ}
+use lib.Signed.{leZ, _≤ℤ_}
 use lib.Ieee.{Float}
 use Rattle.definitions.specs.Lists.{upto, any, totalAbs}
 use Rattle.definitions.specs.Answers.{Refusal, numbered, stoppedAfter, number, Answer, done, refused, Row, row, firstRefusal, answerOf}
 use Rattle.definitions.specs.Mesh.{trianglesLength, labelsLength, weightsLength, coordinatesLength, scratchLength, pointsLength, row3, row4, row5}
 use Rattle.definitions.specs.Mesh.{row6, row7or25, row8, fronted}
 use Rattle.definitions.specs.Labels.{outer, labels}
-use Rattle.definitions.specs.Forward.{forward}
+use Rattle.definitions.specs.Forward.{weight, forward}
 use Rattle.definitions.specs.Backward.{coordinate, backward}
 use Rattle.definitions.specs.Repair.{limit, Ending, finished, stopped, outOfFuel, repair}
 use Rattle.definitions.specs.DrawnPoints.{defaultScale, effectiveScale, scaleAllowed, snapAll}
@@ -43,6 +43,11 @@ row2 slices = any wrongLength slices
 -- 21: no triangle has the outer number. It is a place in the list, counted from 0, and there are 2n - 4 triangles.
 unfoldable pub row21 : ℕ → ℕ → Bool
 row21 n outerPlace = leb (2 * n - 4) outerPlace
+
+-- 29 (document 02, C-18): a low above its high. Both lists have a number for each inner triangle.
+unfoldable pub row29 : List ℤ → List ℤ → Bool
+unfolding any upto
+row29 lows highs = any (λ k. not (leZ (getD lows k (pos 0)) (getD highs k (pos 0)))) (upto (length lows))
 
 -- 3 to 8, each over the whole mesh before the next; 25 stands at the place of 7
 unfoldable pub meshRows : ℕ → List ℕ → List Row
@@ -93,14 +98,17 @@ scratchAfter (some why) scratch = cond (leb (number why) 2) scratch (map (λ _. 
 
 -- ---- the calls. In each, `found` is the refusal of the first row that finds something.
 
--- A call on a mesh asks 1, 2 (of the triangles, the scratch and its own slices), 21, then 3 to 8 of the mesh with its outer triangle in front, and then
--- its own rows.
-unfoldable pub callRefusal : ℕ → ℕ → List ℕ → List ℤ → List Slice → List Row → Option Refusal
-unfolding row1 row2 row21 meshRows fronted firstRefusal
-callRefusal n outerPlace ts scratch slices own =
+-- Every call on a mesh asks 1, 2 (of the triangles, the scratch and its own slices) and 21 first, and then `more`.
+unfoldable pub lentRefusal : ℕ → ℕ → List ℕ → List ℤ → List Slice → List Row → Option Refusal
+unfolding row1 row2 row21 firstRefusal
+lentRefusal n outerPlace ts scratch slices more =
     let lent = slice (length ts) (trianglesLength n) ∷ slice (length scratch) (scratchLength n) ∷ slices in
-    firstRefusal
-    (row 1 (λ _. row1 mostVertices n) ∷ row 2 (λ _. row2 lent) ∷ row 21 (λ _. row21 n outerPlace) ∷ meshRows n (fronted outerPlace ts) ++ own)
+    firstRefusal (row 1 (λ _. row1 mostVertices n) ∷ row 2 (λ _. row2 lent) ∷ row 21 (λ _. row21 n outerPlace) ∷ more)
+
+-- In most calls that is 3 to 8, of the mesh with its outer triangle in front, and then the call's own rows.
+unfoldable pub callRefusal : ℕ → ℕ → List ℕ → List ℤ → List Slice → List Row → Option Refusal
+unfolding lentRefusal meshRows fronted
+callRefusal n outerPlace ts scratch slices own = lentRefusal n outerPlace ts scratch slices (meshRows n (fronted outerPlace ts) ++ own)
 
 -- mesh check
 pub record Checked : Type 0 where
@@ -147,6 +155,30 @@ forwardCall n outerPlace ts ws bs scratch =
     record {
       answer = answerOf tt found;
       coordinates = elim found [ none ↦ forward n mesh (labels n mesh) ws | some why ↦ bs ];
+      scratch = scratchAfter found scratch;
+    }
+
+-- The range (document 02, C-18): a low and a high weight for each inner triangle in, the low and the high of each coordinate written. 29 is asked ahead of
+-- the mesh, 9 of either list.
+pub record Ranged : Type 0 where
+  pub answer : Answer (Unit {0})
+  pub lowCoordinates : List ℤ
+  pub highCoordinates : List ℤ
+  pub scratch : List ℤ
+
+unfoldable pub rangeCall : ℕ → ℕ → List ℕ → List ℤ → List ℤ → List ℤ → List ℤ → List ℤ → Ranged
+unfolding lentRefusal row29 meshRows fronted row9 scratchAfter labels forward
+rangeCall n outerPlace ts lows highs lowBs highBs scratch =
+    let mesh = fronted outerPlace ts in
+    let weightSlices = slice (length lows) (weightsLength n) ∷ slice (length highs) (weightsLength n) ∷ [] in
+    let coordinateSlices = slice (length lowBs) (coordinatesLength n) ∷ slice (length highBs) (coordinatesLength n) ∷ [] in
+    let rows = row 29 (λ _. row29 lows highs) ∷ meshRows n mesh ++ row 9 (λ _. row9 lows || row9 highs) ∷ [] in
+    let found = lentRefusal n outerPlace ts scratch (weightSlices ++ coordinateSlices) rows in
+    let ls = labels n mesh in
+    record {
+      answer = answerOf tt found;
+      lowCoordinates = elim found [ none ↦ forward n mesh ls lows | some why ↦ lowBs ];
+      highCoordinates = elim found [ none ↦ forward n mesh ls highs | some why ↦ highBs ];
       scratch = scratchAfter found scratch;
     }
 
@@ -231,6 +263,15 @@ Accepted n ts = (row1 mostVertices n ≡ false) × (length ts ≡ trianglesLengt
 -- weights of a mesh on n vertices: 2n - 5 numbers that 9 lets through
 abbrev pub AcceptedWeights : ℕ → List ℤ → Type 0
 AcceptedWeights n ws = (length ws ≡ weightsLength n) × (row9 ws ≡ false)
+
+-- ranges of weights (document 02, C-18): two lists of accepted weights, no low above its high
+abbrev pub AcceptedRanges : ℕ → List ℤ → List ℤ → Type 0
+AcceptedRanges n lows highs = AcceptedWeights n lows × AcceptedWeights n highs × (row29 lows highs ≡ false)
+
+-- weights within ranges: 2n - 5 numbers, that of each inner triangle from its low to its high
+abbrev pub Within : ℕ → List ℤ → List ℤ → List ℤ → Type 0
+Within n lows highs ws =
+    (length ws ≡ weightsLength n) × ((t : ℕ) → 1 ≤ t → t ≤ weightsLength n → (weight lows t ≤ℤ weight ws t) × (weight ws t ≤ℤ weight highs t))
 
 -- coordinates of a mesh with labels ls: 3n numbers that 10, 11 and 12 let through and whose weights, by the backward map, 9 lets through
 abbrev pub AcceptedCoordinates : ℕ → List ℕ → List ℕ → List ℤ → Type 0

@@ -10,7 +10,6 @@ use Rattle.definitions.specs.Answers.{done, refused, stoppedAfter}
 use Rattle.definitions.specs.Repair.{area, bad, raise, addTo, finished, stopped, repair, changed}
 use Rattle.definitions.specs.Refusals.{repairCall}
 use Rattle.definitions.specs.CheckedShells.{Every, all-held, _and_, pair, tetra, lent, lentScratch, clearedScratch, minus, tetraAt}
-use Rattle.definitions.specs.LabelCases.{chain}
 
 -- ---- one triangle
 
@@ -29,6 +28,10 @@ Areas =
     ∷ [] in
     (area pair pqr bs 1 ≡ minus 145) × (area pair (2 ∷ 0 ∷ 1 ∷ []) bs 1 ≡ minus 145)
 
+areas : Areas
+unfolding area
+areas = (refl, refl)
+
 -- with p at (0, 0), q at (1, 0) and r at (0, D) in b0 and b1 the area number is D
 abbrev withArea : ℤ → List ℤ
 withArea D =
@@ -39,6 +42,10 @@ withArea D =
 
 abbrev Bad : Type 0
 Bad = map (λ D. bad pair pqr (withArea D) 1) (minus 1 ∷ pos 0 ∷ pos 1 ∷ []) ≡ true ∷ true ∷ false ∷ []
+
+bads : Bad
+unfolding bad
+bads = refl
 
 -- m = 5 each time, once from each c and each of the two other corners: b0 of q and of r less that of p, b1 of p and of r less that of q, b2 of p and of q
 -- less that of r. In the last m is the largest of -9, -4 and -7.
@@ -76,6 +83,10 @@ Raises =
     ∷ [])
     ≡ pos 6 ∷ pos 6 ∷ pos 6 ∷ pos 6 ∷ pos 6 ∷ pos 6 ∷ minus 3 ∷ []
 
+raises : Raises
+unfolding raise
+raises = refl
+
 -- inner triangles are numbered from 1
 abbrev Added : Type 0
 Added =
@@ -85,6 +96,10 @@ Added =
     ∷ (pos 5 ∷ pos 7 ∷ pos 2 ∷ [])
     ∷ (pos 5 ∷ pos 3 ∷ pos 6 ∷ [])
     ∷ []
+
+added : Added
+unfolding addTo
+added = refl
 
 -- ---- the loop
 
@@ -113,15 +128,12 @@ dividedAt a b c d e =
 -- they are 9, 15, 6, 6, 0; m is 0 (b0), so 0 becomes 1. The raises are of 2, 3, 1 and 5, in this order.
 abbrev LowestFirst : Type 0
 LowestFirst =
-    (repair 5 divided dividedLabels (minus 1 ∷ pos 2 ∷ minus 1 ∷ pos 1 ∷ pos 0 ∷ [])
-    ≡ record { ending = finished; weights = pos 1 ∷ pos 3 ∷ pos 1 ∷ pos 1 ∷ pos 1 ∷ []; raises = 2 ∷ 3 ∷ 1 ∷ 5 ∷ [] })
-    × (repairCall 5 0 divided (minus 1 ∷ pos 2 ∷ minus 1 ∷ pos 1 ∷ pos 0 ∷ []) (lent 15) (lentScratch 5)
-    ≡ record {
-      answer = done 4;
-      weights = pos 1 ∷ pos 3 ∷ pos 1 ∷ pos 1 ∷ pos 1 ∷ [];
-      coordinates = dividedAt (pos 1) (pos 3) (pos 1) (pos 1) (pos 1);
-      scratch = clearedScratch 5;
-    })
+    repair 5 divided dividedLabels (minus 1 ∷ pos 2 ∷ minus 1 ∷ pos 1 ∷ pos 0 ∷ [])
+    ≡ record { ending = finished; weights = pos 1 ∷ pos 3 ∷ pos 1 ∷ pos 1 ∷ pos 1 ∷ []; raises = 2 ∷ 3 ∷ 1 ∷ 5 ∷ [] }
+
+lowest-first : LowestFirst
+unfolding repair
+lowest-first = refl
 
 -- In the tetra with weights a, b, c the area numbers are aN, bN and cN. For L - 1, 0, 0 triangle 2 is flat, and m is 0: the raise makes the sum L. Then 3 is
 -- flat, m is 0, and the sum would be L + 1: stopped after a raise of the loop.
@@ -148,6 +160,10 @@ CountSoFar =
     × (repair 4 tetra tetraLabels (pos 0 ∷ pos 0 ∷ minus 400_000_000 ∷ [])
     ≡ record { ending = stopped; weights = pos 400_000_001 ∷ pos 0 ∷ minus 400_000_000 ∷ []; raises = 1 ∷ [] })
 
+count-so-far : CountSoFar
+unfolding repair repairCall
+count-so-far = (refl, refl, refl, refl)
+
 -- Only triangle 2, of weight 0, is bad. Its m is 0 - b = 0: the other two, a - N and c - N, are below 0. A raise to the sum L = 1,073,741,823 is made;
 -- one to L + 1 is refused.
 abbrev RaiseToLimit : Type 0
@@ -167,11 +183,15 @@ RaiseToLimit =
       scratch = clearedScratch 4;
     })
 
+raise-to-limit : RaiseToLimit
+unfolding repairCall
+raise-to-limit = (refl, refl)
+
 -- ---- the first raise, of triangle 1 where N is below 1 (document 02, C-21)
 
 -- `divided` with the weights 2, 1, 1, 1, -4 - k: N is 1 - k. Triangle 1 has area number 11, and m is -2 (b2): its own raise is -1. So k = 0 leaves it as it
--- is, and k = 1 and k = 2 raise it by 1 - N = k, to 2 + k and N = 1. Then 2 is turned: b + e is -3 - k, m is 3 + k (b0), and 1 becomes 5 + k. Now 1 to 4 have
--- area numbers above 0, and 5 is turned: m is 4 + k (b0), and -4 - k becomes 1.
+-- is, and k = 1 raises it by 1 - N = 1, to 3 and N = 1. Then 2 is turned: b + e is -3 - k, m is 3 + k (b0), and 1 becomes 5 + k. Now 1 to 4 have area numbers
+-- above 0, and 5 is turned: m is 4 + k (b0), and -4 - k becomes 1.
 abbrev WithTotal : ℕ → ℕ → Type 0
 WithTotal k count =
     repairCall 5 0 divided (pos 2 ∷ pos 1 ∷ pos 1 ∷ pos 1 ∷ minus (4 + k) ∷ []) (lent 15) (lentScratch 5)
@@ -182,33 +202,29 @@ WithTotal k count =
       scratch = clearedScratch 5;
     }
 
--- N = 1, 0 and -1
+-- N = 1 and 0
 abbrev Totals : Type 0
-Totals = WithTotal 0 2 × WithTotal 1 3 × WithTotal 2 3
+Totals = WithTotal 0 2 × WithTotal 1 3
 
--- `chain` of `LabelCases`, n = 6, with its first weight 0 or 1 and the others 0. By the sums of `MapCases.LongPath` the weights a to g put 0 at
--- (b + .. + f, a, g), 2 at (c + d + e, a + b, f + g) and 4 at (d, a + b + c, e + f + g). The area numbers are aN, a(b + f) + b(b + .. + f),
--- (a + b)(c + e) + c(c + d + e), dN, c(f + g) + e(c + .. + g), bg + f(b + .. + g) and gN. So with 1 for those before it and 0 for it and those after it each
--- triangle is the first that is flat; its m is 0, up to 4 by b0 and from 5 on by b2. With 0, N = 0, all 2n - 5 = 7 are raised; with 1, N = 1, the other six.
-abbrev ChainRaised : ℕ → ℕ → Type 0
-ChainRaised a count =
-    repairCall 6 0 chain (pos a ∷ replicate 6 (pos 0)) (lent 18) (lentScratch 6)
+totals : Totals
+unfolding repairCall
+totals = (refl, refl)
+
+-- `divided` with all weights 0: N = 0. By its area numbers each triangle, with 1 for those before it and 0 for it and those after it, is the first that is
+-- flat, and its m is 0: of 2 by b0 and b2, of 3 by b1, of 4 by b1 and b2, of 5 by b0. So all 2n - 5 = 5 are raised.
+abbrev MostRaises : Type 0
+MostRaises =
+    repairCall 5 0 divided (replicate 5 (pos 0)) (lent 15) (lentScratch 5)
     ≡ record {
-      answer = done count;
-      weights = replicate 7 (pos 1);
-      coordinates =
-          pos 5 ∷ pos 1 ∷ pos 1
-          ∷ pos 0 ∷ pos 7 ∷ pos 0
-          ∷ pos 3 ∷ pos 2 ∷ pos 2
-          ∷ pos 0 ∷ pos 0 ∷ pos 7
-          ∷ pos 1 ∷ pos 3 ∷ pos 3
-          ∷ pos 7 ∷ pos 0 ∷ pos 0
-          ∷ [];
-      scratch = clearedScratch 6;
+      answer = done 5;
+      weights = replicate 5 (pos 1);
+      coordinates = dividedAt (pos 1) (pos 1) (pos 1) (pos 1) (pos 1);
+      scratch = clearedScratch 5;
     }
 
-abbrev MostRaises : Type 0
-MostRaises = ChainRaised 0 7 × ChainRaised 1 6
+most-raises : MostRaises
+unfolding repairCall
+most-raises = refl
 
 -- The tetra with 0, 2, -3: N is -1, and m of triangle 1 is b - N = 3: its own raise is 4, and 1 - N is 2. So 0 becomes 4 and N is 3. Then 3: m is 0 - c = 3,
 -- so -3 becomes 1.
@@ -222,6 +238,10 @@ LargerOwnRaise =
       scratch = clearedScratch 4;
     }
 
+larger-own-raise : LargerOwnRaise
+unfolding repairCall
+larger-own-raise = refl
+
 -- `divided` with 0, 0, 1, 1, -3: N is -1. Triangle 1 is flat, and m is 0 (b1, b2): its own raise is 1, and 1 - N is 2. So 0 becomes 2 and N is 1. Then 2 is
 -- turned: m is 3 (b0), and 0 becomes 4. Then 5 is turned: m is 3 (b0), and -3 becomes 1.
 abbrev SmallerOwnRaise : Type 0
@@ -234,6 +254,10 @@ SmallerOwnRaise =
       scratch = clearedScratch 5;
     }
 
+smaller-own-raise : SmallerOwnRaise
+unfolding repairCall
+smaller-own-raise = refl
+
 -- n = 3 with weight -5, which is N: m is 0 - N, so the raise is 1 - N = 6, and nothing is left to raise.
 abbrev OneTriangle : Type 0
 OneTriangle =
@@ -244,6 +268,10 @@ OneTriangle =
       coordinates = pos 1 ∷ pos 0 ∷ pos 0 ∷ pos 0 ∷ pos 1 ∷ pos 0 ∷ pos 0 ∷ pos 0 ∷ pos 1 ∷ [];
       scratch = clearedScratch 3;
     }
+
+one-triangle : OneTriangle
+unfolding repairCall
+one-triangle = refl
 
 -- The tetra with -1, b, -B, where B = 536,870,910: the area number of triangle 1 is -N, above 0, and its m is b - N = 1 + B, so the first raise leaves
 -- 1 + B, b, -B. For b = 2 their absolute values sum to 2B + 3 = L, and it is made; then 3 is turned, m is 0 - c = B, and -B becomes 1. For b = 3 they would sum
@@ -265,6 +293,10 @@ FirstRaiseToLimit =
       scratch = clearedScratch 4;
     })
 
+first-raise-to-limit : FirstRaiseToLimit
+unfolding repairCall
+first-raise-to-limit = (refl, refl)
+
 -- ---- changed weights: one that rose, one that fell, one of each, none
 
 abbrev Changed : Type 0
@@ -275,53 +307,14 @@ Changed =
     × (changed tetra ws (pos 6 ∷ pos 3 ∷ minus 2 ∷ []) ≡ 1 ∷ 3 ∷ [])
     × (changed tetra ws ws ≡ [])
 
+changes : Changed
+unfolding changed
+changes = (refl, refl, refl, refl)
+
 pub repair-cases :
     Every
     (Areas ∷ Bad ∷ Raises ∷ Added ∷ LowestFirst ∷ CountSoFar ∷ RaiseToLimit ∷ Totals ∷ MostRaises ∷ LargerOwnRaise ∷ SmallerOwnRaise
     ∷ OneTriangle ∷ FirstRaiseToLimit ∷ Changed ∷ [])
-unfolding area bad raise addTo repair repairCall changed
 repair-cases =
     areas and bads and raises and added and lowest-first and count-so-far and raise-to-limit and totals and most-raises
     and larger-own-raise and smaller-own-raise and one-triangle and first-raise-to-limit and changes and all-held
-  where
-    areas : Areas
-    areas = (refl, refl)
-
-    bads : Bad
-    bads = refl
-
-    raises : Raises
-    raises = refl
-
-    added : Added
-    added = refl
-
-    lowest-first : LowestFirst
-    lowest-first = (refl, refl)
-
-    count-so-far : CountSoFar
-    count-so-far = (refl, refl, refl, refl)
-
-    raise-to-limit : RaiseToLimit
-    raise-to-limit = (refl, refl)
-
-    totals : Totals
-    totals = (refl, refl, refl)
-
-    most-raises : MostRaises
-    most-raises = (refl, refl)
-
-    larger-own-raise : LargerOwnRaise
-    larger-own-raise = refl
-
-    smaller-own-raise : SmallerOwnRaise
-    smaller-own-raise = refl
-
-    one-triangle : OneTriangle
-    one-triangle = refl
-
-    first-raise-to-limit : FirstRaiseToLimit
-    first-raise-to-limit = (refl, refl)
-
-    changes : Changed
-    changes = (refl, refl, refl, refl)

@@ -1,7 +1,7 @@
 // The public calls as a library for C: a slice is a pointer and a length, and a call answers the number of its refusal, or 0. `host/packmap.h` declares them;
 // `packmap_job` of crate `job_call` completes the library.
 ghost use mathlib.Core.Path.{_≡_};
-ghost use Rattle.definitions.specs.Refusals.{checkCall, labelsCall, forwardCall, backwardCall, repairCall, snapCall};
+ghost use Rattle.definitions.specs.Refusals.{checkCall, labelsCall, forwardCall, rangeCall, backwardCall, repairCall, snapCall};
 ghost use Rattle.definitions.specs.Answers.{number};
 ghost use Rattle.mesh_answer.specs.Answer.{toRefusal};
 ghost use Rattle.hashcliff.specs.Numbers.{numberOf, carriedBy, carriedOf, carriedOfRepair, shareOf};
@@ -90,6 +90,35 @@ pub extern "C" fn packmap_forward(
         forwardCall n outer (now (triangles .entry)) (now (weights .entry)) (now (coordinates .entry)) (now (scratch .entry)) .scratch ⌝ }
 {
     match maps_call::forward(n, outer, triangles, weights, coordinates, scratch) {
+        MapAnswer::Written => 0,
+        MapAnswer::Refused(why) => tell(why, carried),
+    }
+}
+
+#[no_mangle]
+pub extern "C" fn packmap_forward_range(
+    n: usize,
+    outer: usize,
+    triangles: &[u16],
+    lows: &[i64],
+    highs: &[i64],
+    lowest: &mut [i64],
+    highest: &mut [i64],
+    scratch: &mut [i64],
+    carried: &mut u64,
+) -> u64
+    ensures answer { λ r. ⌜ r ≡ numberOf (rangeCall n outer (now (triangles .entry)) (now (lows .entry)) (now (highs .entry))
+        (now (lowest .entry)) (now (highest .entry)) (now (scratch .entry)) .answer) ⌝ }
+    ensures carried { λ r. ⌜ now (carried .exit) ≡ carriedOf (now (carried .entry)) (rangeCall n outer (now (triangles .entry)) (now (lows .entry))
+        (now (highs .entry)) (now (lowest .entry)) (now (highest .entry)) (now (scratch .entry)) .answer) ⌝ }
+    ensures lowest { λ r. ⌜ now (lowest .exit) ≡ rangeCall n outer (now (triangles .entry)) (now (lows .entry)) (now (highs .entry))
+        (now (lowest .entry)) (now (highest .entry)) (now (scratch .entry)) .lowCoordinates ⌝ }
+    ensures highest { λ r. ⌜ now (highest .exit) ≡ rangeCall n outer (now (triangles .entry)) (now (lows .entry)) (now (highs .entry))
+        (now (lowest .entry)) (now (highest .entry)) (now (scratch .entry)) .highCoordinates ⌝ }
+    ensures scratch { λ r. ⌜ now (scratch .exit) ≡ rangeCall n outer (now (triangles .entry)) (now (lows .entry)) (now (highs .entry))
+        (now (lowest .entry)) (now (highest .entry)) (now (scratch .entry)) .scratch ⌝ }
+{
+    match range_call::forward_range(n, outer, triangles, lows, highs, lowest, highest, scratch) {
         MapAnswer::Written => 0,
         MapAnswer::Refused(why) => tell(why, carried),
     }

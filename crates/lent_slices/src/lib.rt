@@ -138,6 +138,38 @@ pub fn map_rows(
     0
 }
 
+// the same for the range: two lists of weights, and two of coordinates
+pub fn range_rows(
+    n: usize,
+    triangles: usize,
+    lows: usize,
+    highs: usize,
+    lowest: usize,
+    highest: usize,
+    scratch: usize,
+) -> u32
+    ensures { λ r. ⌜ r ≡ firstRows n (slice triangles (trianglesLength n) ∷ slice scratch (scratchLength n)
+        ∷ slice lows (weightsLength n) ∷ slice highs (weightsLength n)
+        ∷ slice lowest (coordinatesLength n) ∷ slice highest (coordinatesLength n) ∷ []) ⌝ }
+{
+    if other_size(n) {
+        return 1;
+    }
+    let has = [triangles, scratch, lows, highs, lowest, highest];
+    let wanted = [
+        triangles_length(n),
+        scratch_length(n),
+        weights_length(n),
+        weights_length(n),
+        coordinates_length(n),
+        coordinates_length(n),
+    ];
+    if other_length(&has, &wanted) {
+        return 2;
+    }
+    0
+}
+
 // the same for snapping
 pub fn snap_rows(n: usize, points: usize, coordinates: usize) -> u32
     ensures { λ r. ⌜ r ≡ firstRows n (slice points (pointsLength n) ∷ slice coordinates (coordinatesLength n) ∷ []) ⌝ }

@@ -1,4 +1,4 @@
--- Rows 9 to 12 as the code meets them: entry by entry, vertex by vertex. Assumes nothing.
+-- Rows 9 to 12 and 29 as the code meets them: entry by entry, vertex by vertex. Assumes nothing.
 use Prim.Native.Nat.{ℕ, _+_, _*_, _≤_, _<_}
 use mathlib.Core.Path.{_≡_, refl, sym, ap, _∙_}
 use mathlib.Core.Bool.{Bool, true, false, not, _&&_}
@@ -10,6 +10,7 @@ use lib.Dec.{ltb}
 use lib.ListN.{length, getD, drop, drop-of-length-le, List·getD-eq-default}
 use lib.Seq.{drop-cons}
 use lib.IntN.{ℤ, pos, natAbs, _+ℤ_}
+use lib.Signed.{leZ}
 use mir.Syntax.{w64}
 use mir.Val.{toZ, ofZ}
 use borrow.Author.Count.{below-none, below-more}
@@ -19,7 +20,7 @@ use Rattle.definitions.specs.Mesh.{coordinatesLength, org}
 use Rattle.definitions.specs.Labels.{outer}
 use Rattle.definitions.specs.Backward.{coordinate}
 use Rattle.definitions.specs.Repair.{limit}
-use Rattle.definitions.specs.Refusals.{eqZ, hasCoordinates, row9, row10, row11, row12}
+use Rattle.definitions.specs.Refusals.{eqZ, hasCoordinates, row9, row10, row11, row12, row29}
 use Rattle.laws.specs.Lists.{in-getD, getD-in, true-any, any-false, false-any, in-upto, none-upto}
 use Rattle.labels_tables.specs.Peeling.{peeling}
 use Rattle.labels_tables.specs.LabelledTables.{Labelled, whole}
@@ -52,6 +53,42 @@ pub summed-all : (ws : List ℤ) (i sum : ℕ) → length ws ≤ i → Summed ws
 unfolding row9 totalAbs
 summed-all ws i sum h s = let r = rw (drop-of-length-le ws h) at (s .rest) in sym (le-ltb limit (totalAbs ws) (omega (arith, s .low)))
 
+-- ---- row 29: the lows before i are at most their highs
+
+-- the low at k is
+unfoldable pub lowFits : List ℤ → List ℤ → ℕ → Bool
+lowFits lows highs k = leZ (getD lows k (pos 0)) (getD highs k (pos 0))
+
+pub record Fitting (lows highs : List ℤ) (i : ℕ) : Type 0 where
+  pub within : i ≤ length lows
+  pub passed : (k : ℕ) → k < i → lowFits lows highs k ≡ true
+
+pub fitting-none : (lows highs : List ℤ) → Fitting lows highs 0
+fitting-none lows highs = record { within = omega arith; passed = below-none (λ k. lowFits lows highs k ≡ true) }
+
+-- x and y are the low and the high at i as the code has them, r the result of its test
+module _ (lows highs : List ℤ) (i : ℕ) (h : i < length lows) (x y : ℤ) (e : x ≡ getD lows i (pos 0)) (f : y ≡ getD highs i (pos 0))
+    (r : Bool) (g : r ≡ leZ x y) where
+  tested-low : r ≡ lowFits lows highs i
+  unfolding lowFits
+  tested-low = rw (g, e, f)
+
+  pub fitting-more : Fitting lows highs i → not r ≡ false → Fitting lows highs (i + 1)
+  fitting-more F k = record {
+    within = omega arith;
+    passed = below-more (λ k. lowFits lows highs k ≡ true) i (F .passed) (sym tested-low ∙ not-false r k);
+  }
+
+  pub fitting-fails : not r ≡ true → true ≡ row29 lows highs
+  unfolding row29 lowFits
+  fitting-fails k =
+      sym (true-any (λ j. not (lowFits lows highs j)) (in-upto (length lows) i h) (ap not (sym tested-low) ∙ k))
+
+pub fitting-all : (lows highs : List ℤ) (i : ℕ) → length lows ≤ i → Fitting lows highs i → false ≡ row29 lows highs
+unfolding row29 lowFits
+fitting-all lows highs i h F =
+    sym (none-upto (λ j. not (lowFits lows highs j)) (length lows) (λ k l. ap not (F .passed k (omega (arith, l)))))
+
 -- ---- row 10
 
 -- the first i coordinates are within the limit
@@ -66,22 +103,22 @@ within-all bs i h f =
     rw (sym (q .2)) (le-ltb limit (natAbs (getD bs (q .0) (pos 0))) (f (q .0) (omega (arith, q .1))))))
 
 -- the loop's invariant; m is the absolute value of the next coordinate
-pub record Ranged (bs : List ℤ) (i : ℕ) : Type 0 where
+pub record Limited (bs : List ℤ) (i : ℕ) : Type 0 where
   pub within : Within bs i
 
-pub ranged-none : (bs : List ℤ) → Ranged bs 0
-ranged-none bs = record { within = below-none (λ k. natAbs (getD bs k (pos 0)) ≤ limit) }
+pub limited-none : (bs : List ℤ) → Limited bs 0
+limited-none bs = record { within = below-none (λ k. natAbs (getD bs k (pos 0)) ≤ limit) }
 
-pub ranged-more : (bs : List ℤ) (i m : ℕ) → Ranged bs i → m ≡ natAbs (getD bs i (pos 0)) → m ≤ limit → Ranged bs (i + 1)
-ranged-more bs i m r e h = record { within = below-more (λ k. natAbs (getD bs k (pos 0)) ≤ limit) i (r .within) (omega arith) }
+pub limited-more : (bs : List ℤ) (i m : ℕ) → Limited bs i → m ≡ natAbs (getD bs i (pos 0)) → m ≤ limit → Limited bs (i + 1)
+limited-more bs i m r e h = record { within = below-more (λ k. natAbs (getD bs k (pos 0)) ≤ limit) i (r .within) (omega arith) }
 
-pub ranged-past : (bs : List ℤ) (i m : ℕ) → i < length bs → m ≡ natAbs (getD bs i (pos 0)) → limit < m → true ≡ row10 bs
+pub limited-past : (bs : List ℤ) (i m : ℕ) → i < length bs → m ≡ natAbs (getD bs i (pos 0)) → limit < m → true ≡ row10 bs
 unfolding row10
-ranged-past bs i m h e q =
+limited-past bs i m h e q =
     sym (true-any (λ b. ltb limit (natAbs b)) (getD-in bs i (pos 0) h) (lt-ltb limit (natAbs (getD bs i (pos 0))) (omega arith)))
 
-pub ranged-all : (bs : List ℤ) (i : ℕ) → length bs ≤ i → Ranged bs i → false ≡ row10 bs
-ranged-all bs i h r = within-all bs i h (r .within)
+pub limited-all : (bs : List ℤ) (i : ℕ) → length bs ≤ i → Limited bs i → false ≡ row10 bs
+limited-all bs i h r = within-all bs i h (r .within)
 
 -- where row 10 finds nothing every coordinate is within the limit
 pub range : (bs : List ℤ) → row10 bs ≡ false → (k : ℕ) → natAbs (getD bs k (pos 0)) ≤ limit

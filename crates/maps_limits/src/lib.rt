@@ -1,4 +1,4 @@
-// What the calls on weights and coordinates ask of them beyond the mesh: rows 9 to 12 of the table of refusals.
+// What the calls on weights and coordinates ask of them beyond the mesh: rows 9 to 12 and 29 of the table of refusals.
 ghost use mathlib.Core.Path.{_≡_};
 ghost use mathlib.Core.Bool.{false, not};
 ghost use mathlib.Core.List.{List};
@@ -8,7 +8,7 @@ ghost use lib.IntN.{natAbs, _+ℤ_};
 ghost use Rattle.definitions.specs.Mesh.{coordinatesLength};
 ghost use Rattle.definitions.specs.Backward.{coordinate};
 ghost use Rattle.definitions.specs.Repair.{limit};
-ghost use Rattle.definitions.specs.Refusals.{eqZ, hasCoordinates, row9, row10, row11, row12};
+ghost use Rattle.definitions.specs.Refusals.{eqZ, hasCoordinates, row9, row10, row11, row12, row29};
 ghost use Rattle.labels_tables.specs.Peeling.{peeling};
 ghost use Rattle.labels_tables.specs.LabelledTables.{Labelled};
 ghost use Rattle.maps_limits.specs.Limits.{balanced};
@@ -25,6 +25,21 @@ pub fn past_limit(weights: &[i64]) -> bool
     while i < weights.len() {
         sum += int64::magnitude(int64::get(weights, i));
         if sum > LIMIT {
+            return true;
+        }
+        i += 1;
+    }
+    false
+}
+
+// 29: a low above its high
+pub fn low_above_high(lows: &[i64], highs: &[i64]) -> bool
+    requires { ⌜ length (now lows) ≡ length (now highs) ⌝ }
+    ensures { λ r. ⌜ r ≡ row29 (now (lows .entry)) (now (highs .entry)) ⌝ }
+{
+    let mut i = 0;
+    while i < lows.len() {
+        if !int64::at_most(int64::get(lows, i), int64::get(highs, i)) {
             return true;
         }
         i += 1;

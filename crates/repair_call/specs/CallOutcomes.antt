@@ -16,7 +16,7 @@ use Rattle.definitions.specs.Refusals.{row9, Slice, slice, scratchAfter, callRe
 use Rattle.theory_sphere.specs.FirstRefusal.{row-found, row-passed, refusal-found, refusal-passed, rimRows, callRefusal-mesh, callRefusal-own}
 use Rattle.labels_tables.specs.LabelledTables.{Peeled}
 use Rattle.lent_slices.specs.Lengths.{firstRows}
-use Rattle.lent_slices.specs.Calls.{Fits, early-found, Late, mesh-late, late-zeros, cleared}
+use Rattle.lent_slices.specs.Calls.{Fits, early-found, Late, rim-late, late-zeros, cleared}
 use Rattle.lent_slices.specs.MapLengths.{Lengths, forwardSlices, forward-fits}
 use Rattle.repair_loop.specs.declared.Ended.{Ended}
 use Rattle.repair_loop.specs.Answer.{endToAnswer, Ends}
@@ -93,7 +93,7 @@ module _ (n outerPlace : ℕ) (ts : List ℕ) (ws bs scratch : List ℤ) where
     pub given-refusal : (why told : Refusal) → firstRefusal (rimRows n outerPlace ts) ≡ some why → told ≡ why →
         Given n outerPlace ts ws bs scratch (refused told) ws bs
     given-refusal why told S e =
-        rw e (given-row why (mesh-late n outerPlace ts why S) (callRefusal-mesh n outerPlace ts scratch slices own why (fits .size) (fits .lengths) S))
+        rw e (given-row why (rim-late n outerPlace ts why S) (callRefusal-mesh n outerPlace ts scratch slices own why (fits .size) (fits .lengths) S))
 
     -- on an accepted mesh
     module _ (A : firstRefusal (rimRows n outerPlace ts) ≡ none) where

@@ -2,3 +2,4 @@
 pub mod Labels
 pub mod Demand
 pub mod EightCases
+pub mod Ranges

@@ -6,6 +6,7 @@ pub mod Bounds
 pub mod Areas
 pub mod Raises
 pub mod Additive
+pub mod Ranges
 pub mod Repairs
 pub mod Calls
 pub mod Demand

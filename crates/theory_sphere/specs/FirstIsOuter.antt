@@ -18,7 +18,7 @@ use Rattle.definitions.specs.Backward.{backward}
 use Rattle.definitions.specs.Repair.{repair}
 use Rattle.definitions.specs.Refusals.{row1, row2, row21, row9, row10, row11, row12, mostVertices, Slice, slice, meshRows, scratchAfter}
 use Rattle.definitions.specs.Refusals.{Checked, checkCall, Labelled, labelsCall, Forwarded, forwardCall, Backwarded, backwardCall, Repaired}
-use Rattle.definitions.specs.Refusals.{repairAnswer, repairCall, callRefusal}
+use Rattle.definitions.specs.Refusals.{repairAnswer, repairCall, lentRefusal, callRefusal}
 use Rattle.laws.specs.Lists.{tested}
 use Rattle.theory_sphere.specs.Fronted.{fronted-0, length-fronted}
 use Rattle.theory_sphere.specs.FrontedRows.{rows-fronted}
@@ -94,7 +94,7 @@ module _ (n p : ℕ) (ts : List ℕ) (passes : (row1 mostVertices n ≡ true) �
   -- where 21 is not asked, or finds nothing
   found-before : (scratch : List ℤ) (slices : List Slice) (own : List Row) →
       callRefusal n p ts scratch slices own ≡ callRefusalBefore n (fronted p ts) scratch slices own
-  unfolding callRefusal callRefusalBefore firstRefusal
+  unfolding callRefusal lentRefusal callRefusalBefore firstRefusal
   found-before scratch slices own = elim passes [ inl t ↦ rw t | inr t ↦ rw (t, length-fronted p ts) ]
 
   fronted-calls : AsItWas n p ts (fronted p ts)

@@ -13,7 +13,7 @@ use lib.Dec.{eqb}
 use Rattle.definitions.specs.Lists.{any}
 use Rattle.definitions.specs.Answers.{Refusal, numbered, vertexPinched, vertexStray, Row, row, firstRefusal}
 use Rattle.definitions.specs.Mesh.{trianglesLength, scratchLength, fronted, row3, row4, row5, row6, row7or25, row8}
-use Rattle.definitions.specs.Refusals.{row1, row2, row21, mostVertices, Slice, slice, wrongLength, meshRows, callRefusal, Accepted}
+use Rattle.definitions.specs.Refusals.{row1, row2, row21, mostVertices, Slice, slice, wrongLength, meshRows, lentRefusal, callRefusal, Accepted}
 use Rattle.laws.specs.Lists.{tested, untrue, or-neither}
 use Rattle.theory_sphere.specs.Fronted.{length-fronted}
 use Rattle.theory_sphere.specs.Vertices.{found-lowest}
@@ -236,41 +236,68 @@ pub row21-means : (n outerPlace : ℕ) → (row21 n outerPlace ≡ false) ↔ (o
 unfolding row21
 row21-means n outerPlace = (leb-false (2 * n - 4) outerPlace, lt-leb (2 * n - 4) outerPlace)
 
--- a call on a mesh: rows 1 and 2, those of the mesh, the call's own
+-- What every call on a mesh asks first: 1, 2 and 21. `more` are the rows after them.
 abbrev pub lent : ℕ → List ℕ → List ℤ → List Slice → List Slice
 lent n ts scratch slices = slice (length ts) (trianglesLength n) ∷ slice (length scratch) (scratchLength n) ∷ slices
 
-module _ (n outerPlace : ℕ) (ts : List ℕ) (scratch : List ℤ) (slices : List Slice) (own : List Row) where
+module _ (n outerPlace : ℕ) (ts : List ℕ) (scratch : List ℤ) (slices : List Slice) (more : List Row) where
   abbrev one : Row
   one = row 1 (λ _. row1 mostVertices n)
 
   abbrev two : Row
   two = row 2 (λ _. row2 (lent n ts scratch slices))
 
-  rest : List Row
-  rest = two ∷ rimRows n outerPlace ts ++ own
+  abbrev rest : List Row
+  rest = row 21 (λ _. row21 n outerPlace) ∷ more
 
-  all-rows : callRefusal n outerPlace ts scratch slices own ≡ firstRefusal (one ∷ rest)
-  unfolding callRefusal rest rimRows
+  all-rows : lentRefusal n outerPlace ts scratch slices more ≡ firstRefusal (one ∷ two ∷ rest)
+  unfolding lentRefusal
   all-rows = refl
 
-  past-1 : row1 mostVertices n ≡ false → callRefusal n outerPlace ts scratch slices own ≡ firstRefusal rest
-  past-1 e = all-rows ∙ refusal-passed one rest (row-passed 1 (λ _. row1 mostVertices n) e)
+  past-1 : row1 mostVertices n ≡ false → lentRefusal n outerPlace ts scratch slices more ≡ firstRefusal (two ∷ rest)
+  past-1 e = all-rows ∙ refusal-passed one (two ∷ rest) (row-passed 1 (λ _. row1 mostVertices n) e)
 
-  pub callRefusal-rest : row1 mostVertices n ≡ false → row2 (lent n ts scratch slices) ≡ false →
-      callRefusal n outerPlace ts scratch slices own ≡ firstRefusal (rimRows n outerPlace ts ++ own)
-  unfolding rest
-  callRefusal-rest e f = past-1 e ∙ refusal-passed two (rimRows n outerPlace ts ++ own) (row-passed 2 (λ _. row2 (lent n ts scratch slices)) f)
+  pub lentRefusal-rest : row1 mostVertices n ≡ false → row2 (lent n ts scratch slices) ≡ false →
+      lentRefusal n outerPlace ts scratch slices more ≡ firstRefusal (row 21 (λ _. row21 n outerPlace) ∷ more)
+  lentRefusal-rest e f = past-1 e ∙ refusal-passed two rest (row-passed 2 (λ _. row2 (lent n ts scratch slices)) f)
 
   -- the refusal of the first row that finds something, row by row
-  pub callRefusal-1 : row1 mostVertices n ≡ true → callRefusal n outerPlace ts scratch slices own ≡ some (numbered 1)
-  callRefusal-1 e = all-rows ∙ refusal-found one rest (numbered 1) (row-found 1 (λ _. row1 mostVertices n) e)
+  pub lentRefusal-1 : row1 mostVertices n ≡ true → lentRefusal n outerPlace ts scratch slices more ≡ some (numbered 1)
+  lentRefusal-1 e = all-rows ∙ refusal-found one (two ∷ rest) (numbered 1) (row-found 1 (λ _. row1 mostVertices n) e)
 
-  pub callRefusal-2 : row1 mostVertices n ≡ false → row2 (lent n ts scratch slices) ≡ true →
-      callRefusal n outerPlace ts scratch slices own ≡ some (numbered 2)
-  unfolding rest
-  callRefusal-2 e f =
-      past-1 e ∙ refusal-found two (rimRows n outerPlace ts ++ own) (numbered 2) (row-found 2 (λ _. row2 (lent n ts scratch slices)) f)
+  pub lentRefusal-2 : row1 mostVertices n ≡ false → row2 (lent n ts scratch slices) ≡ true →
+      lentRefusal n outerPlace ts scratch slices more ≡ some (numbered 2)
+  lentRefusal-2 e f = past-1 e ∙ refusal-found two rest (numbered 2) (row-found 2 (λ _. row2 (lent n ts scratch slices)) f)
+
+  -- they refuse with their numbers
+  pub lentRefusal-only : (P : Refusal → Type 0) → ((k : ℕ) → 1 ≤ k → P (numbered k)) → OnlyWith P more →
+      (why : Refusal) → lentRefusal n outerPlace ts scratch slices more ≡ some why → P why
+  lentRefusal-only P numbers h why e =
+      only-row P 1 (λ _. row1 mostVertices n) (two ∷ rest) (numbers 1 (omega arith))
+      (only-row P 2 (λ _. row2 (lent n ts scratch slices)) rest (numbers 2 (omega arith))
+      (only-row P 21 (λ _. row21 n outerPlace) more (numbers 21 (omega arith)) h))
+      why (sym all-rows ∙ e)
+
+  -- where nothing is found, n is in range, every slice has its length, there is such a triangle, and the rows after them found nothing
+  pub lentRefusal-none : lentRefusal n outerPlace ts scratch slices more ≡ none
+      → (row1 mostVertices n ≡ false) × (length ts ≡ trianglesLength n) × (length scratch ≡ scratchLength n) × (row2 slices ≡ false)
+      × (outerPlace < 2 * n - 4) × (firstRefusal more ≡ none)
+  lentRefusal-none e =
+      let r1 = refusal-cons one (two ∷ rest) (sym all-rows ∙ e) in
+      let r2 = refusal-cons two rest (r1 .1) in
+      let r21 = refusal-cons (row 21 (λ _. row21 n outerPlace)) more (r2 .1) in
+      let l = row-none 2 (λ _. row2 (lent n ts scratch slices)) (r2 .0) in
+      let t = row2-cons (length ts) (trianglesLength n) (slice (length scratch) (scratchLength n) ∷ slices) .0 l in
+      let s = row2-cons (length scratch) (scratchLength n) slices .0 (t .1) in
+      let there = row21-means n outerPlace .0 (row-none 21 (λ _. row21 n outerPlace) (r21 .0)) in
+      (row-none 1 (λ _. row1 mostVertices n) (r1 .0), t .0, s .0, s .1, there, r21 .1)
+
+-- In most calls these are the rows of the mesh and then the call's own.
+module _ (n outerPlace : ℕ) (ts : List ℕ) (scratch : List ℤ) (slices : List Slice) (own : List Row) where
+  pub callRefusal-rest : row1 mostVertices n ≡ false → row2 (lent n ts scratch slices) ≡ false →
+      callRefusal n outerPlace ts scratch slices own ≡ firstRefusal (rimRows n outerPlace ts ++ own)
+  unfolding callRefusal rimRows
+  callRefusal-rest e f = lentRefusal-rest n outerPlace ts scratch slices (meshRows n (fronted outerPlace ts) ++ own) e f
 
   pub callRefusal-mesh : (why : Refusal) → row1 mostVertices n ≡ false → row2 (lent n ts scratch slices) ≡ false →
       firstRefusal (rimRows n outerPlace ts) ≡ some why → callRefusal n outerPlace ts scratch slices own ≡ some why
@@ -283,30 +310,19 @@ module _ (n outerPlace : ℕ) (ts : List ℕ) (scratch : List ℤ) (slices : Lis
   -- a call refuses with a number or with a vertex
   pub callRefusal-only : (P : Refusal → Type 0) → ((k : ℕ) → 1 ≤ k → P (numbered k)) → ((v : ℕ) → P (vertexPinched v)) →
       ((v : ℕ) → P (vertexStray v)) → OnlyWith P own → (why : Refusal) → callRefusal n outerPlace ts scratch slices own ≡ some why → P why
-  unfolding rest
+  unfolding callRefusal
   callRefusal-only P numbers pinched stray h why e =
-      only-row P 1 (λ _. row1 mostVertices n) rest (numbers 1 (omega arith))
-      (only-row P 2 (λ _. row2 (lent n ts scratch slices)) _ (numbers 2 (omega arith))
-      (only-more P (rimRows n outerPlace ts) own (only-rim P (λ k l. numbers k (omega arith)) pinched stray n outerPlace ts) h))
-      why (sym all-rows ∙ e)
+      let mesh = meshRows n (fronted outerPlace ts) in
+      lentRefusal-only n outerPlace ts scratch slices (mesh ++ own) P numbers
+      (only-more P mesh own (only-mesh P (λ k l. numbers k (omega arith)) pinched stray n (fronted outerPlace ts)) h)
+      why e
 
   -- where nothing is found, the mesh is accepted, every slice has its length, and the call's own rows found nothing
   pub callRefusal-none : callRefusal n outerPlace ts scratch slices own ≡ none
       → (outerPlace < 2 * n - 4) × Accepted n (fronted outerPlace ts) × (length scratch ≡ scratchLength n) × (row2 slices ≡ false)
       × (firstRefusal own ≡ none)
-  unfolding rest
+  unfolding callRefusal
   callRefusal-none e =
-      let r1 = refusal-cons one rest (sym all-rows ∙ e) in
-      let r2 = refusal-cons two (rimRows n outerPlace ts ++ own) (r1 .1) in
-      let l = row-none 2 (λ _. row2 (lent n ts scratch slices)) (r2 .0) in
-      let t = row2-cons (length ts) (trianglesLength n) (slice (length scratch) (scratchLength n) ∷ slices) .0 l in
-      let s = row2-cons (length scratch) (scratchLength n) slices .0 (t .1) in
-      let b = refusal-both (rimRows n outerPlace ts) own (r2 .1) in
-      let m = rim-none n outerPlace ts (b .0) in
-      let there = row21-means n outerPlace .0 (m .0) in (
-        there,
-        (row-none 1 (λ _. row1 mostVertices n) (r1 .0), length-fronted outerPlace ts ∙ t .0, m .1),
-        s .0,
-        s .1,
-        b .1,
-      )
+      let r = lentRefusal-none n outerPlace ts scratch slices (meshRows n (fronted outerPlace ts) ++ own) e in
+      let b = refusal-both (meshRows n (fronted outerPlace ts)) own (r .5) in
+      (r .4, (r .0, length-fronted outerPlace ts ∙ r .1, b .0), r .2, r .3, b .1)

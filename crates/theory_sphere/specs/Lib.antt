@@ -10,6 +10,7 @@ pub mod Components
 pub mod Renumbered
 pub mod FrontedRows
 pub mod FirstRefusal
+pub mod RangeRows
 pub mod VertexRefusals
 pub mod AsBefore
 pub mod ScratchLength

@@ -11,7 +11,7 @@ use borrow.Author.Tests.{eq-eqb}
 use Rattle.definitions.specs.Lists.{any}
 use Rattle.definitions.specs.Answers.{Refusal, Row, row, firstRefusal}
 use Rattle.definitions.specs.Mesh.{trianglesLength}
-use Rattle.definitions.specs.Refusals.{row1, row2, mostVertices, Slice, slice, wrongLength, callRefusal}
+use Rattle.definitions.specs.Refusals.{row1, row2, mostVertices, Slice, slice, wrongLength, lentRefusal, callRefusal}
 use Rattle.theory_sphere.specs.FirstRefusal.{rimRows}
 
 -- a slice that has its length makes no difference
@@ -33,7 +33,7 @@ module _ (n outerPlace : ℕ) (ts : List ℕ) (slices : List Slice) (own : List 
 
   -- 10n words are asked for
   pub asks-10n : (scratch : List ℤ) → callRefusal n outerPlace ts scratch slices own ≡ foundAsking (10 * n) scratch
-  unfolding callRefusal foundAsking rimRows
+  unfolding callRefusal lentRefusal foundAsking rimRows
   asks-10n scratch = refl
 
   pub length-alone : (words : ℕ) (scratch : List ℤ) → length scratch ≡ words → foundAsking words scratch ≡ foundWithout

@@ -111,6 +111,33 @@ pub fn forward(
     answer.map(|()| coordinates)
 }
 
+/// The low and the high coordinates.
+pub fn forward_range(
+    n: usize,
+    outer: usize,
+    triangles: &[u16],
+    lows: &[i64],
+    highs: &[i64],
+) -> Result<[Vec<i64>; 2], Refusal> {
+    let len = 3 * n.min(4096);
+    let (mut low, mut high, mut scratch) = (stale(len), stale(len), scratch_for(n));
+    let answer = packmap::forward_range(
+        n,
+        outer,
+        triangles,
+        lows,
+        highs,
+        &mut low,
+        &mut high,
+        &mut scratch,
+    );
+    look_at_scratch(&answer, &scratch);
+    if answer.is_err() {
+        assert_eq!((&low, &high), (&stale(len), &stale(len)));
+    }
+    answer.map(|()| [low, high])
+}
+
 pub fn backward(
     n: usize,
     outer: usize,

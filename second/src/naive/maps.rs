@@ -62,6 +62,22 @@ impl Labelled {
         b
     }
 
+    /// For each coordinate, how many times it counts each weight: b0 and b1 those
+    /// of their sets, b2 all of them less b0's and b1's.
+    pub fn counts(&self) -> Vec<Vec<i128>> {
+        let all = 0..self.corners.len();
+        let mut counts = vec![];
+        for i in 0..self.n {
+            let [b0, b1] = [0, 1].map(|c| -> Vec<i128> {
+                let set = &self.in_b[c][i];
+                all.clone().map(|t| set.contains(&t).into()).collect()
+            });
+            let b2 = all.clone().map(|t| 1 - b0[t] - b1[t]).collect();
+            counts.extend([b0, b1, b2]);
+        }
+        counts
+    }
+
     /// Weights of the coordinates, not yet held against any limit. Either
     /// `choice`, 0 or 1, of the colours of the rim sides gives the same.
     pub fn backward(&self, b: &[i64], choice: usize) -> Vec<i64> {

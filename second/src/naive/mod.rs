@@ -6,6 +6,7 @@
 mod labels;
 mod maps;
 mod mesh;
+mod range;
 mod repair;
 mod snap;
 mod text;
@@ -13,6 +14,7 @@ mod text;
 pub use labels::{by_label, labels};
 pub use maps::Labelled;
 pub use mesh::refusal;
+pub use range::range_refusal;
 pub use repair::{areas, first_raise, next_raise, own_raise, repair_by, too_heavy, Raise};
 pub use snap::snapped;
 pub use text::{packmap, read, Verdict};

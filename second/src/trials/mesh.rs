@@ -26,6 +26,8 @@ impl Trials {
         self.equal(got, Err(refusal), "labels, by the mesh check");
         let got = self.forward(n, outer, t, &heavy);
         self.equal(got, Err(refusal), "forward, by the mesh check");
+        let got = self.range(n, outer, t, [&heavy, &heavy]).map(|_| ());
+        self.equal(got, Err(refusal), "range, by the mesh check");
         let got = self.backward(n, outer, t, &vec![i64::MAX; 3 * n]);
         self.equal(got, Err(refusal), "backward, by the mesh check");
         let (got, ..) = self.repair(n, outer, t, &heavy);

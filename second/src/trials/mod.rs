@@ -8,6 +8,7 @@ mod labels;
 mod maps;
 mod mesh;
 mod outer;
+mod range;
 mod repair;
 mod snap;
 mod text;
@@ -26,12 +27,13 @@ type Test = fn(&mut Trials);
 
 /// The groups by name, each with its tests. All draw on one sequence of random
 /// numbers, so their order matters for what a seed gives.
-const GROUPS: [(&str, &[Test]); 13] = [
+const GROUPS: [(&str, &[Test]); 14] = [
     (
         "P1 to P11",
         &[
             labels::checked,
             maps::checked,
+            range::checked,
             repair::checked,
             snap::checked,
             outer::checked,
@@ -45,6 +47,7 @@ const GROUPS: [(&str, &[Test]); 13] = [
             outer::table,
             labels::table,
             maps::table,
+            range::table,
             repair::table,
             snap::table,
             text::table,
@@ -56,6 +59,7 @@ const GROUPS: [(&str, &[Test]); 13] = [
             mesh::lengths,
             labels::lengths,
             maps::lengths,
+            range::lengths,
             repair::lengths,
             snap::lengths,
         ],
@@ -68,6 +72,7 @@ const GROUPS: [(&str, &[Test]); 13] = [
     ("labels", &[labels::random]),
     ("forward and backward", &[maps::random]),
     ("refused weights and coordinates", &[maps::refused_numbers]),
+    ("ranges", &[range::random, range::refused_ranges]),
     ("repair", &[repair::random, repair::first_raises]),
     (
         "snapping",
@@ -99,7 +104,7 @@ struct Trials {
     passed: u64,
     failed: u64,
     /// How often each refusal was met.
-    hits: [u64; 26],
+    hits: [u64; 30],
 }
 
 /// Runs every group; true where nothing failed. `rounds` scales the random
@@ -111,7 +116,7 @@ pub fn run(rounds: usize, seed: u64) -> bool {
         rounds,
         passed: 0,
         failed: 0,
-        hits: [0; 26],
+        hits: [0; 30],
     };
     for (name, tests) in GROUPS {
         let (passed, failed) = (trials.passed, trials.failed);
@@ -136,11 +141,13 @@ fn every_group_passes() {
 }
 
 fn all_met(trials: &mut Trials) {
-    for number in NUMBERS {
-        let met = trials.hits[usize::from(number)];
-        trials.check(met > 0, || format!("refusal {number} was never met"));
+    // Kept in a list: with an array, the compiler unrolls this for minutes.
+    let mut met = vec![];
+    for &number in &NUMBERS {
+        let hits = trials.hits[usize::from(number)];
+        trials.check(hits > 0, || format!("refusal {number} was never met"));
+        met.push(format!("{number}: {hits}"));
     }
-    let met = NUMBERS.map(|i| format!("{i}: {}", trials.hits[usize::from(i)]));
     println!("  refusals met: {}", met.join(", "));
 }
 

@@ -16,20 +16,24 @@ type Answers = (
     Answer<()>,
     Answer<Vec<u8>>,
     Answer<Vec<i64>>,
+    Answer<[Vec<i64>; 2]>,
     Answer<Vec<i64>>,
     (Answer<usize>, Vec<i64>, Vec<i64>),
 );
 
 impl Trials {
-    /// Every call on a mesh. The coordinates for the backward map are those of
-    /// the weights where there are any.
+    /// Every call on a mesh. Ranges go from the weights to what is above them, and
+    /// the coordinates for the backward map are those of the weights where there are
+    /// any.
     fn every_call(&mut self, n: usize, outer: usize, t: &[u16], weights: &[i64]) -> Answers {
         let there = self.forward(n, outer, t, weights);
         let lent = vec![0; sizes(n).coordinates];
+        let above: Vec<i64> = weights.iter().map(|&w| w.max(-w / 2)).collect();
         (
             self.mesh(n, outer, t),
             self.labels(n, outer, t),
             there.clone(),
+            self.range(n, outer, t, [weights, &above]),
             self.backward(n, outer, t, there.as_ref().unwrap_or(&lent)),
             self.repair(n, outer, t, weights),
         )

@@ -1,0 +1,2 @@
+-- What the range call answers and leaves, for each way that it can end.
+pub mod CallOutcomes
