@@ -38,7 +38,7 @@ highest f (suc n) =
     (t.0 + f n, λ x h. elim (ℕ_discrete x n) [ yes e ↦ rw e (omega arith) | no e ↦ omega (arith, t.1 x (omega arith)) ])
 
 -- two paths one after the other, and a path the other way round where each good arc has a good arc back
-pub chain_append : {Good : ℕ → Type 0} {src tgt : ℕ → ℕ} {x y z : ℕ} → Chain Good src tgt y x → Chain Good src tgt z y →
+pub chain_append : {Good : ℕ → Type 0} {src tgt : ℕ → ℕ} {y x z : ℕ} → Chain Good src tgt y x → Chain Good src tgt z y →
     Chain Good src tgt z x
 chain_append (stop e) c = rw e c
 chain_append (step d g s r) c = step d g s (chain_append r c)
@@ -46,7 +46,7 @@ chain_append (step d g s r) c = step d g s (chain_append r c)
 module _ {Good : ℕ → Type 0} {src tgt : ℕ → ℕ} (back : ℕ → ℕ) (good : (d : ℕ) → Good d → Good (back d)) (from : (d : ℕ) → Good d →
     src (back d) ≡ tgt d)
     (to : (d : ℕ) → Good d → tgt (back d) ≡ src d) where
-  pub chain_reverse : {x y : ℕ} → Chain Good src tgt y x → Chain Good src tgt x y
+  pub chain_reverse : {y x : ℕ} → Chain Good src tgt y x → Chain Good src tgt x y
   chain_reverse (stop e) = stop (sym e)
   chain_reverse (step d g s c) = chain_append (chain_reverse c) (step (back d) (good d g) (from d g) (stop (to d g ∙ s)))
 
@@ -82,7 +82,7 @@ module _ (Good Root : ℕ → Type 0) (src tgt : ℕ → ℕ) where
         both d (yes g) (yes e) (no a) = no (λ h. a h.2)
         both d (yes g) (yes e) (yes r) = yes (g, e, r)
 
-    near : {x y : ℕ} → Root y → Chain Good src tgt y x → (k : ℕ) × Near k x
+    near : {y x : ℕ} → Root y → Chain Good src tgt y x → (k : ℕ) × Near k x
     near r (stop e) = (0, rw e r)
     near r (step d g s c) = let t = near r c in (suc t.0, inr (d, arc d g, (g, s, t.1)))
 

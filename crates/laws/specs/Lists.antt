@@ -80,7 +80,7 @@ module _ {A : Type 0} where
 -- ---- all, any, keep
 
 module _ {A : Type 0} (p : A → Bool) where
-  pub all_true : (xs : List A) → all p xs ≡ true → {x : A} → x ∈ xs → p x ≡ true
+  pub all_true : {x : A} (xs : List A) → all p xs ≡ true → x ∈ xs → p x ≡ true
   unfolding all
   all_true xs e (Memᴰ.head {x = y} {xs = ys} q) = ap p q ∙ (and_both (p y) (all p ys) e).0
   all_true xs e (Memᴰ.tail {x = y} {xs = ys} m) = all_true ys (and_both (p y) (all p ys) e).1 m
@@ -322,7 +322,7 @@ module _ (p : ℕ → Bool) where
         | inr q ↦ later y q (first_some ys x (rw q at e))
       ]
 
-  pub first-none : (xs : List ℕ) → first p xs ≡ none → {x : ℕ} → x ∈ xs → p x ≡ false
+  pub first-none : {x : ℕ} (xs : List ℕ) → first p xs ≡ none → x ∈ xs → p x ≡ false
   unfolding first
   first-none xs e (Memᴰ.head {x = y} i) =
       elim (tested (p y)) [
