@@ -227,7 +227,7 @@ place-back {T} r t h =
 
 module _ {T n : ℕ} {ts fs : List ℕ} (r : Renumbered T ts fs) (S : Sides n T (org ts) (opp ts)) (S' : Sides n T (org fs) (opp fs)) where
   -- a way in `fs` is a way in `ts`
-  place_way : {t u : ℕ} → Way fs T u t → Way ts T (place r u) (place r t)
+  place_way : {u t : ℕ} → Way fs T u t → Way ts T (place r u) (place r t)
   place_way (stop e) = stop (ap (place r) e)
   place_way {u = u} (step d g e way) =
       step (r.to d) (r.to_below d g) (sym (place-tri r d g) ∙ ap (place r) e)
