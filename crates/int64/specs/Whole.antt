@@ -89,7 +89,7 @@ size_fits a f = Fits-nat_abs tt f
 
 -- a number that fits is what its 64 bits stand for
 pub held : (z : ℤ) → mag z < 2 ^ 63 → to_z w64 (of_z w64 z) ≡ z
-held z h = to_z-of_z (record { sfits = h })
+held z h = to_z-of_z {w = w64} (record { sfits = h })
 
 -- ---- what a call gave, read back from its bits
 
