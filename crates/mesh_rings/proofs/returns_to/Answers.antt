@@ -1,0 +1,13 @@
+-- `mesh_rings::returns_to` meets its contract. The loop's invariant: the turns from d on find what all turns find. Assumes nothing.
+use Rattle.std.proofs.Common.{◌-◌}
+use Rattle.mesh_rings.specs.RingLoops.{rotating_back, rotating_next, rotating_none}
+use Rattle.mesh_rings.proofs.returns_to.Goals as goal
+
+pub returns-then-d-h : goal.returns-then-d-h
+returns-then-d-h c = search rotating_back
+
+pub loop-i-preserved : goal.loop-i-preserved
+loop-i-preserved c = search rotating_next
+
+pub returns : goal.returns
+returns c = search rotating_none
