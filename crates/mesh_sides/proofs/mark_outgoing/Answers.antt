@@ -1,0 +1,22 @@
+-- `mesh_sides::mark_outgoing` meets its contract. The loop's invariant: the walk from e on gives what the whole walk gives. Assumes nothing.
+use Rattle.std.proofs.Common.{◌-◌}
+use Rattle.mesh_sides.specs.LoopInvariants.{marking_start, marking_dart, marking_beside, marking_next, marked_found, marked_none}
+use Rattle.mesh_sides.proofs.mark_outgoing.Goals as goal
+
+pub loop-i-init : goal.loop-i-init
+loop-i-init c = search marking_start
+
+pub mark_neighbour-requires : goal.mark_neighbour-requires
+mark_neighbour-requires c = search marking_beside
+
+pub returns-then-mark_neighbour : goal.returns-then-mark_neighbour
+returns-then-mark_neighbour c = search marked_found
+
+pub turn-e-requires : goal.turn-e-requires
+turn-e-requires c = search marking_dart
+
+pub loop-i-preserved : goal.loop-i-preserved
+loop-i-preserved c = search marking_next
+
+pub returns : goal.returns
+returns c = search marked_none
