@@ -2,7 +2,7 @@
 use Prim.Native.Nat.{ℕ, zero, suc, ◌+◌, ◌*◌, ◌/◌, ◌≤◌, ◌<◌}
 use Rattle.std.specs.Prelude.{◌≡◌, ◌≢◌, ◌⊎◌, length}
 use Rattle.std.proofs.Math.Path.{refl, ap}
-use Rattle.std.proofs.Common.{sym, ◌∙◌, arith, length-append}
+use Rattle.std.proofs.Common.{sym, subst, ◌∙◌, arith, length-append}
 use Rattle.std.proofs.Math.Logic.{inl, inr}
 use Rattle.std.proofs.Math.Bool.{true}
 use Rattle.std.proofs.Math.Option.{Option, none, some}
@@ -94,7 +94,7 @@ module _ (n : ℕ) (ts : List ℕ) (s : Sphere n (length ts / 3) (org ts) (opp t
                   e' = c'.1;
                   B = c'.2;
                   parts = c'.3;
-                  alone = f D c'.3 v (rw x.2 t);
+                  alone = f D c'.3 v (subst (λ (y : ℕ). removable ts (state ts R D P) y ≡ true) (sym x.2) t);
                   chosen = c ∙ ap {B = Option ℕ} some (sym x.2);
                 }
           ]
