@@ -181,7 +181,7 @@ module _ {n : ℕ} (ts ls : List ℕ) (sph : Sphere n (length ts / 3) (org ts) (
         ]
 
     -- what comes before a triangle of a walk is on the walk, or the triangle is its first
-    back : {t : ℕ} (s : ℕ) → Split n ts ls u c s → On (beyond ts ls c s) t → (beyond ts ls c s ≡ t) ⊎ On s t
+    back : (s : ℕ) {t : ℕ} → Split n ts ls u c s → On (beyond ts ls c s) t → (beyond ts ls c s ≡ t) ⊎ On s t
     back s p (stop e) = inl (sym e)
     back s p (step d q e w) =
         elim (back s p w) [
@@ -228,7 +228,7 @@ module _ {n : ℕ} (ts ls : List ℕ) (sph : Sphere n (length ts / 3) (org ts) (
     on-walk {s} {t} (suc k) p (step d q e w) h =
         let f = falls d q (on-inner p w) in
         let m = ap measure e in
-        rw (← e, walk_triangles-on ts ls c k d (on-inner q (stop refl))) (Memᴰ.tail (on-walk k p w (omega arith)))
+        rw (← e, walk_triangles-on ts ls c k d (on-inner q (stop refl))) (Memᴰ.tail (on-walk {t = beyond ts ls c d} k p w (omega arith)))
 
     -- all split triangles are on u's walk
     split_walk : (g : ℕ) → Split n ts ls u c g → g ∈ walk_triangles ts ls c (length ts / 3) u
