@@ -2,7 +2,7 @@
 use Rattle.std.specs.Prelude.{ℕ, ◌+◌, ◌-◌, ◌*◌, ◌/◌, ◌≤◌, ◌<◌, ◌≡◌, cond, List, eqb, length, ℤ, pos, ◌+ℤ◌, ◌-ℤ◌}
 use Rattle.std.proofs.Math.Path.{refl}
 use Rattle.std.proofs.Common.{ap, ◌∙◌, arith}
-use Rattle.definitions.specs.Mesh.{tri, next, prev, org, opp, inner}
+use Rattle.definitions.specs.Mesh.{tri, next, prev, org, opp}
 use Rattle.definitions.specs.Labels.{outer, label}
 use Rattle.definitions.specs.Forward.{weight, walk, path, crosses, crossed_weight}
 use Rattle.definitions.specs.Backward.{coordinate, slope, weight_at}
