@@ -167,7 +167,7 @@ module _ (T : ℕ) (org opp label v : ℕ → ℕ) where
 
 module _ {n T : ℕ} {org opp label v : ℕ → ℕ} (sph : Sphere n T org opp) (R : Realizer n T org opp label v) (named : Named org v) where
   -- the last dart of a fan
-  pub fan-last : {g : ℕ} {gs : List ℕ} (e' : ℕ) → e' < 3 * T → Fan T org opp (opp e') g gs → (x : ℕ) × (x ∈ gs) × (prev x ≡ e')
+  pub fan-last : (e' : ℕ) {g : ℕ} {gs : List ℕ} → e' < 3 * T → Fan T org opp (opp e') g gs → (x : ℕ) × (x ∈ gs) × (prev x ≡ e')
   fan-last e' l (end {g} h q) = (g, Memᴰ.head refl, sym (sph.twice (prev g) (prev-below T g h)) ∙ ap opp q ∙ sph.twice e' l)
   fan-last e' l (more h f) = let r = fan-last e' l f in (r.0, Memᴰ.tail r.1, r.2)
 
