@@ -1,7 +1,7 @@
 -- Which vertex leaves next: the work's counters tell just those that can be removed, and the smallest of them is the definition's choice. Assumes nothing.
 use Rattle.std.specs.Prelude.{ℕ, ◌*◌, ◌/◌, ◌<◌, ◌≡◌, ◌≢◌, false, ◌&&◌, ◌||◌, length}
 use Rattle.std.proofs.Math.Path.{sym, ap}
-use Rattle.std.proofs.Common.{◌∙◌, inl, inr, arith}
+use Rattle.std.proofs.Common.{subst, ◌∙◌, inl, inr, arith}
 use Rattle.std.proofs.Math.Bool.{true, not}
 use mathlib.Core.List.{List, ◌∷◌, ◌++◌}
 use Rattle.std.proofs.Math.Option.{Option, some}
@@ -121,7 +121,7 @@ module _ (n : ℕ) (ts : List ℕ) (s : Sphere n (length ts / 3) (org ts) (opp t
           e' = b.2;
           B = b.3;
           parts = b.4;
-          alone = lone D b.0 b.1 b.2 b.3 b.4 v (rw (sym y) at k.1);
+          alone = lone D b.0 b.1 b.2 b.3 b.4 v (subst (λ (z : ℕ). removable ts p z ≡ true) (sym y) k.1);
           least = c ∙ ap {B = Option ℕ} some (sym y);
           can_leave = rw y (removable_can w a k.1);
           below = rw y wn;
