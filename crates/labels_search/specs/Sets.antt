@@ -4,7 +4,7 @@
 use Rattle.std.specs.Prelude.{ℕ, ◌+◌, ◌*◌, ◌/◌, ◌%◌, ◌≤◌, ◌<◌, ◌^◌, min, ◌≡◌, ◌≢◌, Bool, true, false, not, cond, ◌&&◌, ◌||◌, eqb, ltb}
 use Rattle.std.proofs.Math.Path.{refl}
 use Rattle.std.proofs.Common.{sym, ◌∙◌, true≢false}
-use Rattle.std.proofs.Math.Bool.{and_true}
+use Rattle.std.proofs.Math.Bool.{and-true}
 use native.Mathlib.Omega.{arith}
 use Rattle.std.proofs.Math.Decide.{ℕ_discrete}
 use borrow.Author.Tests.{lt-ltb, le-ltb, eq-eqb, ne_eqb, eqb-true, eqb-false}
@@ -351,7 +351,7 @@ module _ {n : ℕ} {f : ℕ → ℕ} (s : Summed n f) where
       | yes e ↦
           rw (eq-eqb w (lowest n f) e, e, lowest-member)
           (no_member n (take_from n f) (lowest n f) (omega (arith, taken.same)))
-      | no e ↦ rw (ne_eqb w (lowest n f) e) (member-kept n f (take_from n f) w (taken.other w (omega arith) e) ∙ sym (and_true (member n f w)))
+      | no e ↦ rw (ne_eqb w (lowest n f) e) (member-kept n f (take_from n f) w (taken.other w (omega arith) e) ∙ sym (and-true (member n f w)))
     ]
 
 -- ---- the empty set
