@@ -5,8 +5,11 @@ ghost use Rattle.text_model.specs.Writing.{Wrote};
 ghost use Rattle.packmap.specs.Printed.{refusal_line};
 
 use job_call::JobAnswer;
-use libc::{STDIN_FILENO, STDOUT_FILENO};
 use text_read_job::MOST_BYTES;
+
+// the file descriptors of standard input and output
+const STDIN_FILENO: i32 = 0;
+const STDOUT_FILENO: i32 = 1;
 
 fn signed(x: u32) -> i64
     ensures { result ≡ pos x }

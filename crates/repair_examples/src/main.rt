@@ -1,7 +1,9 @@
 // Repair through the code, on the tetra: P6, P7, P8, and the examples of rows 9 and 13. A line is written for each: the number of the answer (0 for done), the
 // count of raises, the three weights, and the coordinates of vertex 3. The numbers in the file stdout are document 01's, and of P8 C-21's.
-use libc::STDOUT_FILENO;
 use repair_call::RepairAnswer;
+
+// the file descriptor of standard output
+const STDOUT_FILENO: i32 = 1;
 
 fn number(answer: RepairAnswer) -> u64 {
     match answer {

@@ -21,4 +21,4 @@ whole_tested z w n e h = rw e h
 
 -- the first coordinate of a list that is cs, read back from its bits
 pub first_is : (bs cs : List ℤ) → bs ≡ cs → mag (get_or bs 0 (pos 0)) < 2 ^ 63 → to_z w64 (of_z w64 (get_or bs 0 (pos 0))) ≡ get_or cs 0 (pos 0)
-first_is bs cs e h = to_z-of_z (record { sfits = h }) ∙ ap (λ (xs : List ℤ). get_or xs 0 (pos 0)) e
+first_is bs cs e h = to_z-of_z {w = w64} (record { sfits = h }) ∙ ap (λ (xs : List ℤ). get_or xs 0 (pos 0)) e

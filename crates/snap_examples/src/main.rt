@@ -5,8 +5,10 @@ ghost use Rattle.std.specs.Prelude.{◌≡◌};
 ghost use Rattle.snap_call.specs.Answer.{snap_to_answer};
 ghost use Rattle.snap_examples.specs.Seen.{number_of, whole_of};
 
-use libc::STDOUT_FILENO;
 use snap_call::SnapAnswer;
+
+// the file descriptor of standard output
+const STDOUT_FILENO: i32 = 1;
 
 fn number(answer: SnapAnswer) -> u64
     ensures { result ≡ number_of (snap_to_answer answer) }
