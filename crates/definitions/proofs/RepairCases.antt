@@ -4,7 +4,7 @@ use Rattle.std.specs.Prelude.{ℕ, ◌+◌, ◌≡◌, refl, true, false, List, 
 use Rattle.definitions.specs.Answers.{done, refused, stopped_after}
 use Rattle.definitions.specs.Repair.{area, bad, raise, add_to, finished, stopped, repair, changed}
 use Rattle.definitions.specs.Refusals.{repair_call}
-use Rattle.definitions.specs.CheckedShells.{Every, all_held, ◌and◌, pair, tetra, lent, lent_scratch, cleared_scratch, minus, tetra_at}
+use Rattle.definitions.proofs.CheckedShells.{Every, all_held, ◌and◌, pair, tetra, lent, lent_scratch, cleared_scratch, minus, tetra_at}
 
 -- ---- one triangle
 

@@ -6,8 +6,8 @@ use mathlib.Core.List.{List, [], ◌∷◌, ◌++◌, flat_map}
 use Rattle.definitions.specs.Lists.{upto}
 use Rattle.definitions.specs.Answers.{numbered, vertex_pinched, vertex_stray, stopped_after, share_outside, line_broken}
 use Rattle.definitions.specs.Job.{bytes, write_line, told_with_text, line_of, host_call, prints}
-use Rattle.definitions.specs.CheckedShells.{Every, all_held, ◌and◌, stale, minus, two}
-use Rattle.definitions.specs.RefusalTable.{tetra_lines, example_text, example_listing}
+use Rattle.definitions.proofs.CheckedShells.{Every, all_held, ◌and◌, stale, minus, two}
+use Rattle.definitions.proofs.RefusalTable.{tetra_lines, example_text, example_listing}
 
 -- what packmap prints of a text, and of the tetra's text with these lines after its triangles
 abbrev Prints : String → String → Type 0

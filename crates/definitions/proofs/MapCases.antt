@@ -5,8 +5,8 @@ use Rattle.std.specs.Prelude.{ℕ, ◌≡◌, refl, List, [], ◌∷◌, ℤ, po
 use Rattle.definitions.specs.Answers.{done}
 use Rattle.definitions.specs.Forward.{path, walk}
 use Rattle.definitions.specs.Refusals.{forward_call, backward_call}
-use Rattle.definitions.specs.CheckedShells.{Every, all_held, ◌and◌, tetra, lent, lent_scratch, cleared_scratch, minus, tetra_at}
-use Rattle.definitions.specs.LabelCases.{chain, mixed, mixed_labels}
+use Rattle.definitions.proofs.CheckedShells.{Every, all_held, ◌and◌, tetra, lent, lent_scratch, cleared_scratch, minus, tetra_at}
+use Rattle.definitions.proofs.LabelCases.{chain, mixed, mixed_labels}
 
 -- ---- paths and walks, as darts
 

@@ -7,7 +7,7 @@ use Rattle.definitions.specs.Answers.{refused, numbered}
 use Rattle.definitions.specs.Mesh.{triangles_length, labels_length, weights_length, coordinates_length, scratch_length, points_length}
 use Rattle.definitions.specs.Mesh.{corners, darts, triangles, inner, tip, opp, rotations, outgoing, component}
 use Rattle.definitions.specs.Refusals.{check_call}
-use Rattle.definitions.specs.CheckedShells.{Every, all_held, ◌and◌, tetra, lent_scratch, cleared_scratch, minus}
+use Rattle.definitions.proofs.CheckedShells.{Every, all_held, ◌and◌, tetra, lent_scratch, cleared_scratch, minus}
 
 -- ---- functions on lists
 

@@ -6,7 +6,7 @@ use Rattle.std.specs.Float.{binary64}
 use Rattle.definitions.specs.Answers.{Refusal, refused, numbered, vertex_pinched, vertex_stray, stopped_after, share_outside}
 use Rattle.definitions.specs.Refusals.{check_call, forward_call, range_call, backward_call, repair_call, snap_call}
 use Rattle.definitions.specs.Job.{bytes, host_call, prints}
-use Rattle.definitions.specs.CheckedShells.{Every, all_held, ◌and◌, tetra, stale, lent, zeros, lent_scratch, cleared_scratch, minus, half, tetra_at}
+use Rattle.definitions.proofs.CheckedShells.{Every, all_held, ◌and◌, tetra, stale, lent, zeros, lent_scratch, cleared_scratch, minus, half, tetra_at}
 
 -- ---- the mesh: 1 to 8, and 25 at the place of 7
 

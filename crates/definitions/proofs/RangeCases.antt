@@ -7,10 +7,10 @@ use Rattle.definitions.specs.Answers.{Refusal, done, refused, numbered, vertex_p
 use Rattle.definitions.specs.Mesh.{weights_length, coordinates_length}
 use Rattle.definitions.specs.Forward.{weight}
 use Rattle.definitions.specs.Refusals.{row29, range_call, AcceptedRanges, Within}
-use Rattle.definitions.specs.CheckedShells.{Every, all_held, ◌and◌, pair, tetra, lent, lent_scratch, cleared_scratch, minus, tetra_at}
-use Rattle.definitions.specs.RefusalTable.{side_without_opposite, L}
-use Rattle.definitions.specs.VertexCases.{stray_below, four_spheres}
-use Rattle.definitions.specs.OuterCases.{pair_and_torus, at, pair_at, tetra_at2}
+use Rattle.definitions.proofs.CheckedShells.{Every, all_held, ◌and◌, pair, tetra, lent, lent_scratch, cleared_scratch, minus, tetra_at}
+use Rattle.definitions.proofs.RefusalTable.{side_without_opposite, L}
+use Rattle.definitions.proofs.VertexCases.{stray_below, four_spheres}
+use Rattle.definitions.proofs.OuterCases.{pair_and_torus, at, pair_at, tetra_at2}
 
 -- ---- 29
 

@@ -9,8 +9,8 @@ use Rattle.std.specs.Float.{binary64}
 use Rattle.definitions.specs.Answers.{done, refused, numbered, vertex_pinched, vertex_stray, stopped_after, share_outside, line_broken, number}
 use Rattle.definitions.specs.Refusals.{check_call, labels_call, forward_call, backward_call, repair_call, snap_call}
 use Rattle.definitions.specs.Refusals.{Accepted, AcceptedWeights, AcceptedCoordinates}
-use Rattle.definitions.specs.CheckedShells.{Every, all_held, ◌and◌, pair, tetra, five, stale, lent, lent_scratch, zeros, cleared_scratch, minus, tetra_at}
-use Rattle.definitions.specs.RefusalTable.{torus, L, no_number}
+use Rattle.definitions.proofs.CheckedShells.{Every, all_held, ◌and◌, pair, tetra, five, stale, lent, lent_scratch, zeros, cleared_scratch, minus, tetra_at}
+use Rattle.definitions.proofs.RefusalTable.{torus, L, no_number}
 
 -- Lent slices for n = 3: 6 vertex numbers, 3 labels, 1 weight, 9 coordinates, 30 words of scratch, 6 shares. For n = 4: 12, 9, 3, 12, 40 and 8.
 

@@ -5,9 +5,9 @@ use Rattle.definitions.specs.Lists.{filter}
 use Rattle.definitions.specs.Mesh.{darts}
 use Rattle.definitions.specs.Backward.{coordinate, backward}
 use Rattle.definitions.specs.Directions.{eight_cases, runs, backward_by_cases}
-use Rattle.definitions.specs.CheckedShells.{Every, all_held, ◌and◌, minus, pair, tetra, tetra_at}
-use Rattle.definitions.specs.LabelCases.{six, six_labels, mixed, mixed_labels}
-use Rattle.definitions.specs.MapCases.{placed}
+use Rattle.definitions.proofs.CheckedShells.{Every, all_held, ◌and◌, minus, pair, tetra, tetra_at}
+use Rattle.definitions.proofs.LabelCases.{six, six_labels, mixed, mixed_labels}
+use Rattle.definitions.proofs.MapCases.{placed}
 
 -- ---- the formulas
 

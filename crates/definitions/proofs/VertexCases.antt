@@ -5,8 +5,8 @@ use Rattle.definitions.specs.Answers.{Refusal, refused, vertex_pinched, vertex_s
 use Rattle.definitions.specs.Mesh.{labels_length, weights_length, coordinates_length, ring, stray, pinched}
 use Rattle.definitions.specs.Lists.{upto, filter}
 use Rattle.definitions.specs.Refusals.{check_call, labels_call, forward_call, backward_call, repair_call}
-use Rattle.definitions.specs.CheckedShells.{Every, all_held, ◌and◌, tetra, stale, lent_scratch, cleared_scratch}
-use Rattle.definitions.specs.RefusalTable.{torus, L}
+use Rattle.definitions.proofs.CheckedShells.{Every, all_held, ◌and◌, tetra, stale, lent_scratch, cleared_scratch}
+use Rattle.definitions.proofs.RefusalTable.{torus, L}
 
 -- the mesh check of n and its triangles is refused, and scratch holds zeros
 abbrev Refuses : ℕ → List ℕ → Refusal → Type 0

@@ -6,8 +6,8 @@ use Rattle.definitions.specs.Answers.{Refusal, done, refused, numbered, vertex_p
 use Rattle.definitions.specs.Mesh.{fronted}
 use Rattle.definitions.specs.Labels.{outer}
 use Rattle.definitions.specs.Refusals.{row21, check_call, labels_call, forward_call, backward_call, repair_call}
-use Rattle.definitions.specs.CheckedShells.{Every, all_held, ◌and◌, pair, tetra, five, stale, lent, lent_scratch, cleared_scratch, minus, tetra_at}
-use Rattle.definitions.specs.RefusalTable.{torus, bipyramids, side_without_opposite, L}
+use Rattle.definitions.proofs.CheckedShells.{Every, all_held, ◌and◌, pair, tetra, five, stale, lent, lent_scratch, cleared_scratch, minus, tetra_at}
+use Rattle.definitions.proofs.RefusalTable.{torus, bipyramids, side_without_opposite, L}
 
 -- ---- the outer triangle in front
 

@@ -6,8 +6,8 @@ use Rattle.std.specs.Float.{binary64}
 use Rattle.definitions.specs.Answers.{Refusal, done, refused, numbered, share_outside}
 use Rattle.definitions.specs.DrawnPoints.{Snap, whole, not_finite, beyond, snap}
 use Rattle.definitions.specs.Refusals.{Snapped, snap_call}
-use Rattle.definitions.specs.CheckedShells.{Every, all_held, ◌and◌, lent, minus, half, two}
-use Rattle.definitions.specs.RefusalTable.{no_number, two_and_half}
+use Rattle.definitions.proofs.CheckedShells.{Every, all_held, ◌and◌, lent, minus, half, two}
+use Rattle.definitions.proofs.RefusalTable.{no_number, two_and_half}
 
 -- ---- shares, by their bits
 

@@ -7,7 +7,7 @@ use Rattle.definitions.specs.Answers.{done}
 use Rattle.definitions.specs.Mesh.{darts, tip}
 use Rattle.definitions.specs.Labels.{Peeling, outer, start, next_removable, fan, step, peel, rim, points}
 use Rattle.definitions.specs.Refusals.{labels_call}
-use Rattle.definitions.specs.CheckedShells.{Every, all_held, ◌and◌, stale, lent_scratch, cleared_scratch}
+use Rattle.definitions.proofs.CheckedShells.{Every, all_held, ◌and◌, stale, lent_scratch, cleared_scratch}
 
 -- ---- the smallest-numbered first
 
