@@ -3,7 +3,7 @@
 
     python3 tools/operating_test.py
 
-Needs packmap proved and linked: rt check packmap.
+Needs packmap proved and linked: tools/program target/bin.
 """
 
 import os
