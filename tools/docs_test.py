@@ -20,8 +20,10 @@ SPECS = {}
 for spec in (TOP / "crates").glob("*/specs/*.antt"):
     for title in re.findall(r"record (\S+)", spec.read_text(encoding="utf8")):
         SPECS.setdefault(title, []).append(spec)
-for spec in (CRATES["definitions"] / "specs").glob("*.antt"):
-    SPECS[spec.stem] = [spec]
+# the cases that pin the definitions stand in proofs
+for folder in "specs", "proofs":
+    for spec in (CRATES["definitions"] / folder).glob("*.antt"):
+        SPECS[spec.stem] = [spec]
 
 missing = []
 cited = set()
@@ -32,13 +34,18 @@ def names(path):
     return set(re.split(r'[\s(){}.;,@"]+', path.read_text(encoding="utf8")))
 
 
+def stands(path, stem):
+    """Whether a crate has a file of definitions or of cases of that name."""
+    return any((path / folder / f"{stem}.antt").exists() for folder in ("specs", "proofs"))
+
+
 def edit(crate, label):
     return (CRATES[crate] / "must-fail" / f"{label}.edit").exists()
 
 
 def known(text, owners):
-    """Whether the name is that of a folder or of a file of specs, or the header or one of the crates writes it in specs or code."""
-    if (TOP / text).is_dir() or text in names(TOP / "host/packmap.h") or any((path / "specs" / f"{text}.antt").exists() for path in CRATES.values()):
+    """Whether the name is that of a folder or of a file of specs or cases, or the header or one of the crates writes it in specs, proofs or code."""
+    if (TOP / text).is_dir() or text in names(TOP / "host/packmap.h") or any(stands(path, text) for path in CRATES.values()):
         return True
     return any(text in names(path) for owner in owners for path in CRATES[owner].rglob("*") if path.suffix in (".antt", ".rt"))
 
@@ -49,7 +56,7 @@ def span(page, text, crate, owners):
     if match and match[1] in CRATES:
         if edit(match[1], match[2]):
             cited.add((match[1], match[2]))
-        elif not (CRATES[match[1]] / "specs" / f"{match[2]}.antt").exists():
+        elif not stands(CRATES[match[1]], match[2]):
             missing.append(f"{page}: {text} is neither a file of specs nor an edit")
         return match[1]
     match = re.fullmatch(r"([A-Z][A-Za-z]+)\.([^\s.]+)", text)

@@ -76,6 +76,11 @@ module _ (n outer_place : ℕ) (ts : List ℕ) where
       first_refusal (rim_rows n outer_place ts) ≡ some (to_refusal (refusal_in a))
   labelled_refused s a why e S = rw e (rw e at S)
 
+  pub labelled_else : (s : List ℤ) (a : MeshAnswer) → (a ≡ Accepted → ⊥) → Labelling n outer_place ts s a →
+      first_refusal (rim_rows n outer_place ts) ≡ some (to_refusal (refusal_in a))
+  labelled_else s Accepted e S = absurd (e refl)
+  labelled_else s (Refused why) e S = labelled_refused s (Refused why) why refl S
+
   pub labelled_accepted : (s : List ℤ) (a : MeshAnswer) → a ≡ Accepted → Labelling n outer_place ts s a → LabelledRim n outer_place ts s
   labelled_accepted s a e S = rw e at S
 
