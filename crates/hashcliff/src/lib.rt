@@ -1,5 +1,7 @@
 // The public calls as a library for C: a slice is a pointer and a length, and a call answers the number of its refusal, or 0. `host/packmap.h` declares them;
 // `packmap_job` of crate `job_call` completes the library.
+#![tactic(auto)]
+
 ghost use Rattle.std.specs.Prelude.{◌≡◌};
 ghost use Rattle.definitions.specs.Refusals.{check_call, labels_call, forward_call, range_call, backward_call, repair_call, snap_call};
 ghost use Rattle.definitions.specs.Answers.{number};

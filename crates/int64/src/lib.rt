@@ -1,5 +1,7 @@
 // Whole numbers in 64 bits: each operation gives the number itself, where the operands' absolute values leave it room.
 // Slices of them are read one entry at a time: `get` asks that it is there, `at` reads 0 past the end.
+#![tactic(auto)]
+
 ghost use Rattle.std.specs.Prelude.{◌≡◌, ◌+◌, ◌-◌, ◌*◌, ◌<◌, ◌≤◌, ◌^◌, length, get_or, set, pos, nat_abs, ◌+ℤ◌, ◌-ℤ◌, ◌*ℤ◌};
 ghost use Rattle.std.specs.Int.Signed.{lt_z, le_z};
 ghost use Rattle.definitions.specs.Refusals.{eq_z};

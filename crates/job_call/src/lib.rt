@@ -1,4 +1,6 @@
 // A job from its text to its listing: the text is read, the weights are repaired, and the listing is written. The call for the host service is the last one.
+#![tactic(auto)]
+
 ghost use Rattle.std.specs.Prelude.{◌≡◌, ◌<◌};
 ghost use Rattle.definitions.specs.Answers.{done};
 ghost use Rattle.definitions.specs.Mesh.{org};

@@ -1,6 +1,8 @@
 // The labels call: on an accepted mesh the peeling labels the corners of the inner triangles. The work is linear in n, but for the search for the
 // smallest vertex that can leave, which passes over whole groups and blocks of vertices. Of scratch it uses the ten words a vertex that the mesh
 // check uses.
+#![tactic(auto)]
+
 ghost use Rattle.std.specs.Prelude.{◌≡◌, length};
 ghost use Rattle.definitions.specs.Refusals.{labels_call};
 ghost use Rattle.mesh_check.specs.Stages.{Lent};

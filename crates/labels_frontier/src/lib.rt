@@ -1,6 +1,8 @@
 // Vertices come onto the frontier and leave it: degrees, the triangles that are passed, and the frontier's darts, in scratch. What the tables hold is told
 // where the work is defined. Nothing is tested that an accepted mesh settles: what each step asks of the tables is in labels_model, and the steps before it
 // leave it so.
+#![tactic(auto)]
+
 ghost use Rattle.std.specs.Prelude.{◌≡◌, ◌*◌, ◌<◌, ◌^◌, length};
 ghost use Rattle.scratch_tables.specs.Tables.{vertex_in};
 ghost use Rattle.labels_tables.specs.Peeling.{peeling, set_order};

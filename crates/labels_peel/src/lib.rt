@@ -1,5 +1,7 @@
 // The labels stage over scratch: the vertices leave the frontier one by one, the smallest that can leave first, and their triangles get labels.
 // What the tables hold is told where the work is defined.
+#![tactic(auto)]
+
 ghost use Rattle.std.specs.Prelude.{◌≡◌, ◌+◌, ◌-◌, ◌<◌, length};
 ghost use Rattle.scratch_tables.specs.Tables.{vertex_in};
 ghost use Rattle.labels_tables.specs.Peeling.{peeling};

@@ -1,5 +1,7 @@
 // A set of vertices below n in the words `sets` of the tables, in three levels: a member is added, and the lowest one found and taken, with one word read
 // and one stored in each level. No loop but the one that clears.
+#![tactic(auto)]
+
 ghost use Rattle.std.specs.Prelude.{◌≡◌, false, ◌+◌, ◌*◌, ◌<◌, ◌≤◌, ◌^◌, length};
 ghost use Rattle.scratch_tables.specs.Tables.{upd, vertex_in};
 ghost use Rattle.labels_tables.specs.Peeling.{peeling};

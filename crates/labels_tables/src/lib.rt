@@ -1,4 +1,6 @@
 // What scratch holds in the labels stage and after it, read and stored one entry at a time. Nothing outside knows which number of a word an entry is.
+#![tactic(auto)]
+
 ghost use Rattle.std.specs.Prelude.{◌≡◌, ◌+◌, ◌*◌, ◌≤◌, ◌<◌, ◌^◌, length};
 ghost use Rattle.definitions.specs.Mesh.{next, tri};
 ghost use Rattle.scratch_tables.specs.Tables.{dart_in, vertex_in, tables_of};

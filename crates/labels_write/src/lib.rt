@@ -1,4 +1,6 @@
 // The labels, written from what scratch holds once the corners are labelled: of each inner triangle the corner with label 2 tells the two others.
+#![tactic(auto)]
+
 ghost use Rattle.std.specs.Prelude.{◌≡◌, ℕ, ◌+◌, ◌*◌, ◌%◌, ◌≤◌, ◌<◌, length, get_or};
 ghost use Rattle.scratch_tables.specs.Tables.{tables_of};
 ghost use Rattle.labels_tables.specs.Peeling.{peeling_of, peeling};

@@ -1,4 +1,6 @@
 // What every call on lent slices asks first: row 1, the number of vertices, and row 2, the lengths of the slices. The numbers stand here once.
+#![tactic(auto)]
+
 ghost use Rattle.std.specs.Prelude.{◌≡◌, [], ◌∷◌, length};
 ghost use Rattle.definitions.specs.Mesh.{triangles_length, labels_length, weights_length, coordinates_length, scratch_length, points_length};
 ghost use Rattle.definitions.specs.Refusals.{slice, most_vertices, row1, row2};

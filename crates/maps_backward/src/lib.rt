@@ -1,5 +1,7 @@
 // The backward map on a labelled mesh, by the eight cases of document 02, C-13. The directions of a triangle's three sides choose the case. Coordinates
 // within the limit leave each case room. Each weight is worked out once, and kept in scratch until their sum is known to be within the limit.
+#![tactic(auto)]
+
 ghost use Rattle.std.specs.Prelude.{◌≡◌, false, List, ℕ, ◌+◌, ◌*◌, ◌<◌, ◌≤◌, length, ℤ, nat_abs, ◌-ℤ◌};
 ghost use Rattle.definitions.specs.Mesh.{coordinates_length};
 ghost use Rattle.definitions.specs.Repair.{limit};

@@ -1,5 +1,7 @@
 // The maps between weights and coordinates. Both find the labels of the mesh first; the maps themselves are linear in n. Of scratch they use the ten
 // words a vertex that the labels stage uses.
+#![tactic(auto)]
+
 ghost use Rattle.std.specs.Prelude.{◌≡◌, length};
 ghost use Rattle.definitions.specs.Refusals.{forward_call, backward_call};
 ghost use Rattle.maps_call.specs.Answer.{map_to_answer};

@@ -1,5 +1,7 @@
 // The forward map on a peeled mesh, in the lent coordinates alone. Down: vertices leave in their order, and each hands the sums beside it on through
 // its fan. Up: in the opposite order each takes b1 from its left neighbour and b0 from its right one. Last, b2 is what is left of N.
+#![tactic(auto)]
+
 ghost use Rattle.std.specs.Prelude.{◌≡◌, false, List, ℕ, suc, ◌+◌, ◌-◌, ◌*◌, ◌≤◌, ◌<◌, ◌^◌, length, set, nat_abs, ◌-ℤ◌};
 ghost use Rattle.definitions.specs.Mesh.{weights_length, coordinates_length, prev};
 ghost use Rattle.definitions.specs.Forward.{forward};

@@ -1,4 +1,6 @@
 // What the calls on weights and coordinates ask of them beyond the mesh: rows 9 to 12 and 29 of the table of refusals.
+#![tactic(auto)]
+
 ghost use Rattle.std.specs.Prelude.{◌≡◌, false, not, List, ℕ, ◌+◌, ◌*◌, ◌≤◌, ◌<◌, length, nat_abs, ◌+ℤ◌};
 ghost use Rattle.definitions.specs.Mesh.{coordinates_length};
 ghost use Rattle.definitions.specs.Backward.{coordinate};

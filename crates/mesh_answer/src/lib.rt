@@ -1,4 +1,6 @@
 // What the mesh check answers, and a refusal as every call on a mesh tells it.
+#![tactic(auto)]
+
 ghost use Rattle.std.specs.Prelude.{◌≡◌};
 ghost use Rattle.definitions.specs.Answers.{number};
 ghost use Rattle.mesh_answer.specs.Answer.{to_refusal, refusal_in};

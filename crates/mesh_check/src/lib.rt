@@ -2,6 +2,8 @@
 // in n.
 // The triangles are read until each dart's origin stands in its word, the outer triangle's in front. From then on scratch tells everything:
 // `mesh_tables` says what its words hold.
+#![tactic(auto)]
+
 ghost use Rattle.std.specs.Prelude.{◌≡◌, length};
 ghost use Rattle.definitions.specs.Mesh.{fronted};
 ghost use Rattle.definitions.specs.Refusals.{check_call};

@@ -1,6 +1,8 @@
 // Row 8: a walk over the triangles from the outer one. A triangle is entered across one of its sides, by a dart of its own, and left by the two others; a
 // flag says that it is reached. Those that wait to be left stand in a queue. Where few do, the walk goes on to one just reached, so that it need not
 // wait for the queue's words. As many triangles are left as are reached, so the walk ends too soon just where there are several pieces.
+#![tactic(auto)]
+
 ghost use Rattle.std.specs.Prelude.{◌≡◌, ◌*◌, ◌≤◌, length};
 ghost use Rattle.definitions.specs.Mesh.{tri};
 ghost use Rattle.scratch_tables.specs.Tables.{column, mark_in, tables_of, flags_of, queue_of, Flagged};

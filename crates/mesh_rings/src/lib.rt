@@ -1,4 +1,6 @@
 // 7 and 25 of the table of refusals. 25: a vertex has no dart. 7: from its first dart by turns; of as many as it has darts only the last may come back.
+#![tactic(auto)]
+
 ghost use Rattle.std.specs.Prelude.{◌≡◌, length};
 ghost use Rattle.mesh_tables.specs.Incidence.{incidence};
 ghost use Rattle.mesh_answer.specs.Answer.{found_in};

@@ -1,6 +1,8 @@
 // Rows 3 to 6 of the table of refusals. Sides are matched through the lists of darts by origin: the darts that leave a vertex leave their marks at
 // the vertices that they lead to, and then each of them finds where the dart before it comes from the opposite of that one. Each dart is met a fixed
 // number of times. The triangles are read until the lists are filled; from there on origins stand in scratch.
+#![tactic(auto)]
+
 ghost use Rattle.std.specs.Prelude.{◌≡◌, ◌+◌, ◌*◌, ◌≤◌, ◌<◌, max, length};
 ghost use Rattle.definitions.specs.Mesh.{next, prev, org, row3, fronted};
 ghost use Rattle.mesh_tables.specs.Incidence.{incidence};

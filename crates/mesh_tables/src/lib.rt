@@ -1,4 +1,6 @@
 // What scratch holds in the mesh check, read and stored one entry at a time. Nothing outside knows which number of a word an entry is.
+#![tactic(auto)]
+
 ghost use Rattle.std.specs.Prelude.{◌≡◌, ◌<◌, ◌^◌, length};
 ghost use Rattle.scratch_tables.specs.Tables.{dart_in, vertex_in, tables_of};
 ghost use Rattle.mesh_tables.specs.Incidence.{incidence_of, incidence, set_dart, set_turn, set_list, set_mark};

@@ -1,4 +1,6 @@
 // packmap: a job text on standard input, its listing on standard output; a refusal prints one line: refused, number, line.
+#![tactic(auto)]
+
 ghost use Rattle.std.specs.Prelude.{◌≤◌, ◌≡◌, [], ◌∷◌, length, pos};
 ghost use Rattle.definitions.specs.Job.{most_bytes, prints};
 ghost use Rattle.text_model.specs.Writing.{Wrote};

@@ -1,5 +1,7 @@
 // Forward on weights with a tolerance: a low and a high weight for each inner triangle in, the lowest and the highest of each coordinate out. The mesh is
 // checked and labelled once for both lists; behind that the call is linear in n. Of scratch it uses the ten words a vertex that the labels stage uses.
+#![tactic(auto)]
+
 ghost use Rattle.std.specs.Prelude.{◌≡◌, ◌||◌, List, ℕ, length};
 ghost use Rattle.definitions.specs.Mesh.{coordinates_length};
 ghost use Rattle.definitions.specs.Forward.{forward};

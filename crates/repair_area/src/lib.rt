@@ -1,5 +1,7 @@
 // Area numbers, the test for a bad triangle, and its raise, from the coordinates at its corners p, q, r with the labels 0, 1, 2.
 // Coordinates 0 and 1 tell all of it. Those within the limit leave each number here room in 64 bits.
+#![tactic(auto)]
+
 ghost use Rattle.std.specs.Prelude.{◌≡◌, ◌*◌, ◌+◌, ◌<◌, ◌≤◌, false, nat_abs, ◌-ℤ◌, ◌*ℤ◌};
 ghost use Rattle.definitions.specs.Backward.{coordinate};
 ghost use Rattle.definitions.specs.Repair.{limit, max_z};

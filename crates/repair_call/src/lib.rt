@@ -1,5 +1,7 @@
 // The repair call: rows 1, 2, 21 and 3 to 9; then, while some inner triangle is flat or turned, the lowest-numbered one is raised. A raise touches the
 // vertices that it moves and the triangles on the raised one's three walks, which are at most linear in n.
+#![tactic(auto)]
+
 ghost use Rattle.std.specs.Prelude.{◌≡◌, length};
 ghost use Rattle.definitions.specs.Refusals.{repair_call};
 ghost use Rattle.lent_slices.specs.MapLengths.{Lengths};

@@ -1,5 +1,7 @@
 // Repair through the code, on the tetra: P6, P7, P8, and the examples of rows 9 and 13. A line is written for each: the number of the answer (0 for done), the
 // count of raises, the three weights, and the coordinates of vertex 3. The numbers in the file stdout are document 01's, and of P8 C-21's.
+#![tactic(auto)]
+
 use repair_call::RepairAnswer;
 
 // the file descriptor of standard output

@@ -2,6 +2,8 @@
 // is below 1 that of triangle 1, and the loop. All the time coordinates 0 and 1 are those of the weights: a raise moves the subtrees behind the sides that its
 // triangle's walk crosses. The third is written at the end. The sum of the weights' absolute values is kept up to date, so that the raise that would break 9
 // is not made.
+#![tactic(auto)]
+
 ghost use Rattle.std.specs.Prelude.{◌≡◌, List, false, ℕ, ◌+◌, ◌<◌, ◌≤◌, ℤ, pos, nat_abs, ◌-ℤ◌};
 ghost use Rattle.definitions.specs.Lists.{total_abs};
 ghost use Rattle.definitions.specs.Forward.{forward};

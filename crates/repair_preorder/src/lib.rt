@@ -2,6 +2,8 @@
 // the sizes of the subtrees, from the first removed vertex to the last; the position of each, in reverse; the ranges of the subtrees whose side a walk crosses,
 // into the words of the walks; the vertices at their positions. Remainders, `saturating_sub` and `clamp_index` keep stores in their tables whatever the words
 // say; where paths lead to the roots they change nothing.
+#![tactic(auto)]
+
 ghost use Rattle.std.specs.Prelude.{◌≡◌, ◌+◌, ◌-◌, ◌*◌, ◌<◌, ◌≤◌, ◌^◌, length};
 ghost use Rattle.scratch_tables.specs.Tables.{tables_of, dart_in, vertex_in, set_head, set_mark};
 ghost use Rattle.scratch_tables.specs.Fields.{field0, field3};

@@ -1,5 +1,7 @@
 // The next bad triangle, looked for in the order of the numbers. After a raise, of those passed only the ones on the raised triangle's three walks are looked
 // at again.
+#![tactic(auto)]
+
 ghost use Rattle.std.specs.Prelude.{◌≡◌, ◌+◌, ◌*◌, ◌<◌, ◌≤◌, length, nat_abs};
 ghost use Rattle.definitions.specs.Repair.{limit};
 ghost use Rattle.scratch_tables.specs.Tables.{dart_in, tables_of};

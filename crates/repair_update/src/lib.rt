@@ -1,5 +1,7 @@
 // The subtrees that a raise of triangle t by x moves: the colour-2 walk of t goes from word to word, and each names a range of a preorder. That of colour 0
 // goes with coordinate 1, that of colour 1 with coordinate 0; v0 and v1 are in no subtree and get theirs in the end.
+#![tactic(auto)]
+
 ghost use Rattle.std.specs.Prelude.{◌≡◌, ℕ, ◌+◌, ◌-◌, ◌*◌, ◌<◌, ◌≤◌, ◌^◌, length, get_or, set, pos, nat_abs, ◌+ℤ◌};
 ghost use Rattle.scratch_tables.specs.Tables.{word_at, tables_of, dart_in};
 ghost use Rattle.scratch_tables.specs.Fields.{field0};

@@ -1,6 +1,8 @@
 // The words that a raise reads, packed into scratch over the tables of the labels stage: one for each vertex that left, and for each inner triangle one for
 // its colour-2 walk, one for its corners and one for its two other walks. Four numbers stand in a word, 16 bits for each of the first three.
 // A triangle's words take the place of its darts' words, so those of the vertices are packed first, and those of a triangle are made from its own darts.
+#![tactic(auto)]
+
 ghost use Rattle.std.specs.Prelude.{◌≡◌, ◌+◌, ◌-◌, ◌*◌, ◌<◌, ◌^◌, length};
 ghost use Rattle.scratch_tables.specs.Tables.{dart_in, vertex_in, tables_of, set_mark};
 ghost use Rattle.labels_tables.specs.Peeling.{peeling};

@@ -1,4 +1,6 @@
 // The lent scratch as four tables, read and written one word at a time, and up to four numbers in a word. Who reads a word asks that it is there.
+#![tactic(auto)]
+
 ghost use Rattle.std.specs.Prelude.{◌≡◌, map, ◌+◌, ◌*◌, ◌<◌, ◌≤◌, ◌^◌, length, set, pos};
 ghost use Rattle.definitions.specs.Mesh.{next, prev};
 ghost use Rattle.scratch_tables.specs.Tables.{past_darts, count_start, mark_start, to_natural, word_at, dart_in, vertex_in, mark_in, tables_of, flags_of, queue_of};

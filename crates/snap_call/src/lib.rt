@@ -1,4 +1,6 @@
 // Snapping of drawn points, the public call on a list. The shares are looked at in order first, and then every point is written.
+#![tactic(auto)]
+
 ghost use Rattle.std.specs.Prelude.{◌≡◌, true, [], ◌∷◌, ◌+◌, ◌*◌, ◌/◌, ◌%◌, ◌^◌, ◌≤◌, ◌<◌, leb, length, get_or, pos, nat_abs, ◌-ℤ◌};
 ghost use Rattle.std.specs.Float.{nan, binary64};
 ghost use Rattle.std.specs.Float.Ieee.{top, hid};

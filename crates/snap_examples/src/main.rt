@@ -1,6 +1,8 @@
 // Snapping through the code. P9 to P11 and four halves are checked by `expect`, so they are proved of the code too. Then each pattern below is snapped at
 // seven scales, two of them not allowed, and a line is written: the pattern, the scale, the number of the answer (0 for done) and the whole number. The
 // file stdout was made with exact fractions.
+#![tactic(auto)]
+
 ghost use Rattle.std.specs.Prelude.{◌≡◌};
 ghost use Rattle.snap_call.specs.Answer.{snap_to_answer};
 ghost use Rattle.snap_examples.specs.Seen.{number_of, whole_of};

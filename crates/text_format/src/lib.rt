@@ -1,4 +1,6 @@
 // Decimal numbers, and lines of a keyword and numbers after tabs, written at the front of a slice. Each writer answers how many bytes it wrote.
+#![tactic(auto)]
+
 ghost use Rattle.std.specs.Prelude.{◌+◌, ◌<◌, ◌≤◌, suc, ◌≡◌, [], ◌∷◌, length, get_or, pos};
 ghost use Rattle.definitions.specs.Job.{decimal, TAB, write_line};
 ghost use Rattle.text_model.specs.Numbers.{numeral, signed};

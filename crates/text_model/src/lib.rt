@@ -1,1 +1,2 @@
 // Laws of the job text's bytes, lines and numbers, and of the listing. Specs only.
+#![tactic(auto)]

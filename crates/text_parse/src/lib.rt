@@ -1,4 +1,6 @@
 // The job text, read from bytes: decimal numbers from a slice that holds one field; fields; and the three layouts of a line, which is given without its LF.
+#![tactic(auto)]
+
 ghost use Rattle.std.specs.Prelude.{◌≡◌, pos, neg_ℤ, ℕ, take, drop};
 ghost use Rattle.definitions.specs.Job.{natural_to, vertex_field, weight_field, same_bytes, fields, head_line, triangle_line, weight_line, read_line};
 ghost use Rattle.text_model.specs.Scan.{scan};

@@ -1,4 +1,6 @@
 // A job text read into lent slices: the first line, the triangles, the weights, and nothing after them.
+#![tactic(auto)]
+
 ghost use Rattle.std.specs.Prelude.{◌+◌, ◌*◌, ◌-◌, ◌<◌, ◌≤◌, ◌≡◌, ◌∷◌, [], ◌++◌, length, take, drop};
 ghost use Rattle.definitions.specs.Mesh.{triangles_length, weights_length};
 ghost use Rattle.definitions.specs.Job.{triangle_line, weight_line, read_lines, read_job, most_text_vertices};

@@ -1,4 +1,6 @@
 // The listing of a repaired job: its length is counted first, and it is written only where the buffer has room for all of it.
+#![tactic(auto)]
+
 ghost use Rattle.std.specs.Prelude.{◌+◌, ◌*◌, ◌<◌, ◌≤◌, ◌≡◌, [], ◌∷◌, length, pos};
 ghost use Rattle.definitions.specs.Backward.{coordinate};
 ghost use Rattle.definitions.specs.Job.{listing};

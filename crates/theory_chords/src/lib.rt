@@ -1,1 +1,2 @@
 // No code here: specs/ holds the theory.
+#![tactic(auto)]
