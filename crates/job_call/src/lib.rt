@@ -107,8 +107,7 @@ pub fn run(text: &[u8], listing: &mut [u8]) -> JobAnswer
 }
 
 // The call for the host service: the listing's length, or 65,536 × (1 + line) plus the number of the refusal, line being 0 unless it is 17.
-#[unsafe(no_mangle)]
-pub extern "C" fn packmap_job(text: &[u8], listing: &mut [u8]) -> u64
+pub fn packmap_job(text: &[u8], listing: &mut [u8]) -> u64
     ensures number { result ≡ (host_call text.now listing.old).number }
     ensures listing { listing.new ≡ (host_call text.now listing.old).listing }
 {
