@@ -1,5 +1,4 @@
 -- `snap_call::find_refusal` meets its contract. The invariant: the shares behind have passed. The measure is the shares that are left. Assumes nothing.
-use Rattle.std.proofs.Common.{◌-◌}
 use Rattle.snap_call.specs.LoopLaws.{looked_more, looked_stop, looked_all}
 use Rattle.snap_call.proofs.find_refusal.Goals as goal
 

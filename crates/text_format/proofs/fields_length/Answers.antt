@@ -1,5 +1,4 @@
 -- `text_format::fields_length` meets its contract. The loop's invariant, `Counts`: the count is that of the fields so far. Assumes nothing.
-use Rattle.std.proofs.Common.{◌-◌}
 use Rattle.text_format.specs.LineLoops.{counts_none, counts_more}
 use Rattle.text_format.proofs.fields_length.Goals as goal
 

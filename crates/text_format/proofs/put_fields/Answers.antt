@@ -1,5 +1,5 @@
 -- `text_format::put_fields` meets its contract. The loop's invariant, `Fields`: the fields so far stand at the front. Assumes nothing.
-use Rattle.std.proofs.Common.{arith, ◌-◌}
+use Rattle.std.proofs.Common.{arith}
 use Rattle.text_format.specs.LineLoops.{field_room, fields-none, fields-more}
 use Rattle.text_format.proofs.put_fields.Goals as goal
 

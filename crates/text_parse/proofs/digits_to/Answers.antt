@@ -1,6 +1,5 @@
 -- `text_parse::digits_to` meets its contract. The loop's invariant, `Scanned`: scanning the bytes that are left, from the number so far, gives what scanning
 -- them all gives. Assumes nothing.
-use Rattle.std.proofs.Common.{◌-◌}
 use Rattle.text_parse.specs.ByteLoops.{below-digits, above-digits, past_most, scanned-more, scanned-all}
 use Rattle.text_parse.proofs.digits_to.Goals as goal
 

@@ -1,5 +1,4 @@
 -- `text_parse::find` meets its contract. The loop's invariant, `Passed`: the place of the byte is as many bytes on as have been passed. Assumes nothing.
-use Rattle.std.proofs.Common.{◌-◌}
 use Rattle.text_parse.specs.ByteLoops.{passed_hit, passed_more, passed_all}
 use Rattle.text_parse.proofs.find.Goals as goal
 

@@ -1,5 +1,4 @@
 -- `text_parse::same` meets its contract. The loop's invariant, `Agree`: comparing what is left gives what comparing the whole gives. Assumes nothing.
-use Rattle.std.proofs.Common.{◌-◌}
 use Rattle.text_model.specs.Positions.{same_lengths}
 use Rattle.text_parse.specs.ByteLoops.{agree_not, agree_more, agree_all}
 use Rattle.text_parse.proofs.same.Goals as goal

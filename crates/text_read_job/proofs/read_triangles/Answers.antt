@@ -1,6 +1,6 @@
 -- `text_read_job::read_triangles` meets its contract. The loop's invariant, `Reads`: the lines read so far gave the first numbers of the slice, and the
 -- rest of the lines give the rest. Assumes nothing.
-use Rattle.std.proofs.Common.{arith, ◌-◌}
+use Rattle.std.proofs.Common.{arith}
 use Rattle.text_read_job.specs.LoopInvariants.{triangles_steady, reads_none, reads_broken, reads_more, reads_all}
 use Rattle.text_read_job.proofs.read_triangles.Goals as goal
 

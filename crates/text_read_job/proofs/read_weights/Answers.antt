@@ -1,6 +1,6 @@
 -- `text_read_job::read_weights` meets its contract. The loop's invariant, `Reads`: the lines read so far gave the first numbers of the slice, and the
 -- rest of the lines give the rest. Assumes nothing.
-use Rattle.std.proofs.Common.{arith, ◌-◌}
+use Rattle.std.proofs.Common.{arith}
 use Rattle.text_read_job.specs.LoopInvariants.{weights_steady, reads_none, reads_broken, reads_more, reads_all, stored}
 use Rattle.text_read_job.proofs.read_weights.Goals as goal
 

@@ -1,5 +1,5 @@
 -- `text_write_listing::put_vertices` meets its contract. The loop's invariant, `Lines`: the lines so far stand at the front. Assumes nothing.
-use Rattle.std.proofs.Common.{arith, ◌-◌}
+use Rattle.std.proofs.Common.{arith}
 use Rattle.text_write_listing.specs.LoopInvariants.{line_room, lines_none, lines_more}
 use Rattle.text_write_listing.proofs.put_vertices.Goals as goal
 

@@ -1,5 +1,4 @@
 -- `text_write_listing::vertices_length` meets its contract. The loop's invariant, `Counts`: the count is that of the lines so far. Assumes nothing.
-use Rattle.std.proofs.Common.{◌-◌}
 use Rattle.text_write_listing.specs.LoopInvariants.{counts_none, counts_more}
 use Rattle.text_write_listing.proofs.vertices_length.Goals as goal
 
