@@ -11,6 +11,7 @@ use text_read_job::MOST_BYTES;
 
 // the file descriptors of standard input and output
 const STDIN_FILENO: i32 = 0;
+
 const STDOUT_FILENO: i32 = 1;
 
 fn signed(x: u32) -> i64
