@@ -16,7 +16,7 @@ use text_read_job::{MOST_VERTICES, Reading};
 use text_write_listing::Listed;
 
 // listed, with the listing's length; refused, with the number of the row; or 17, with the line
-#[derive(Drop)]
+#[derive(Clone, Copy)]
 pub enum JobAnswer {
     Listed(usize),
     Refused(u32),

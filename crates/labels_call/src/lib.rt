@@ -16,7 +16,7 @@ use mesh_check::examine;
 use scratch_tables::clear;
 
 // the labels are written, or the call is refused
-#[derive(Drop)]
+#[derive(Clone, Copy)]
 pub enum LabelsAnswer {
     Written,
     Refused(Refusal),

@@ -16,7 +16,7 @@ use mesh_answer::{MeshAnswer, Refusal, refusal_of};
 use scratch_tables::clear;
 
 // the coordinates or the weights are written, or the call is refused
-#[derive(Drop)]
+#[derive(Clone, Copy)]
 pub enum MapAnswer {
     Written,
     Refused(Refusal),

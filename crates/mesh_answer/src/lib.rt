@@ -6,7 +6,7 @@ ghost use Rattle.definitions.specs.Answers.{number};
 ghost use Rattle.mesh_answer.specs.Answer.{to_refusal, refusal_in};
 
 // A number of the table; 7 comes with the vertex whose triangles form several rings, 25 with the vertex that is in no triangle.
-#[derive(Drop)]
+#[derive(Clone, Copy)]
 pub enum Refusal {
     Numbered(u32),
     VertexPinched(usize),
@@ -14,7 +14,7 @@ pub enum Refusal {
 }
 
 // accepted, or refused
-#[derive(Drop)]
+#[derive(Clone, Copy)]
 pub enum MeshAnswer {
     Accepted,
     Refused(Refusal),

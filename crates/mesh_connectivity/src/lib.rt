@@ -15,7 +15,7 @@ use scratch_tables::{flag, prev_dart, queue_word, set_flag, set_queue};
 
 // Where the walk is: the dart by which the triangle at hand was entered, and the darts of the queue that wait, from `from` on and before `to`. Once `from`
 // is past `to` none is at hand.
-#[derive(Drop)]
+#[derive(Clone, Copy)]
 pub struct Place {
     pub dart: usize,
     pub from: usize,

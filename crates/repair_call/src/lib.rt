@@ -16,7 +16,7 @@ use repair_loop::{Ended, repair_labelled};
 use scratch_tables::clear;
 
 // repaired, with the count of raises; refused; or 13, with the count so far
-#[derive(Drop)]
+#[derive(Clone, Copy)]
 pub enum RepairAnswer {
     Repaired(usize),
     Refused(Refusal),

@@ -21,7 +21,7 @@ ghost use Rattle.repair_loop.specs.Answer.{Halts, Ends};
 ghost use Rattle.repair_loop.specs.Start.{StartPre};
 
 // How the loop ended, with the count of raises: no triangle is bad any more, or the next raise would break 9.
-#[derive(Drop)]
+#[derive(Clone, Copy)]
 pub enum Ended {
     Finished(usize),
     Stopped(usize),

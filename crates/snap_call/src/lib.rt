@@ -15,7 +15,7 @@ ghost use Rattle.snap_model.specs.Looking.{shares_answer};
 ghost use Rattle.snap_call.specs.Answer.{snap_to_answer};
 
 // What a list of points is answered: done, or refused with the number of the table, 16 with the share itself.
-#[derive(Drop)]
+#[derive(Clone, Copy)]
 pub enum SnapAnswer {
     Done,
     Refused(u32),
@@ -152,7 +152,7 @@ fn third_coordinate(kx: i64, ky: i64, r: u32) -> i64
 }
 
 // A drawn point: the share x of v0, and the share y of v1.
-#[derive(Drop)]
+#[derive(Clone, Copy)]
 pub struct Point {
     pub x: f64,
     pub y: f64,

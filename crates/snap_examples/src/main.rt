@@ -22,7 +22,7 @@ fn number(answer: SnapAnswer) -> u64
     }
 }
 
-#[derive(Drop)]
+#[derive(Clone, Copy)]
 pub struct Seen {
     pub number: u64,
     pub whole: i64,

@@ -12,21 +12,21 @@ ghost use Rattle.text_model.specs.Layouts.{corners_of, pair_of, last_of};
 ghost use Rattle.text_model.specs.Reading.{line_of};
 ghost use Rattle.text_parse.specs.LineAnswers.{corners_in};
 
-#[derive(Drop)]
+#[derive(Clone, Copy)]
 pub enum Number {
     Value(u32),
     Broken,
 }
 
 // A vertex: 0..65535.
-#[derive(Drop)]
+#[derive(Clone, Copy)]
 pub enum Vertex {
     Corner(u16),
     NoCorner,
 }
 
 // A weight: -2147483648..2147483647.
-#[derive(Drop)]
+#[derive(Clone, Copy)]
 pub enum Weight {
     Weighs(i64),
     NoWeight,
@@ -138,7 +138,7 @@ pub fn read_weight(s: &[u8]) -> Weight
 pub const PACK_MAP: [u8; 8] = *b"pack-map";
 
 // A triangle's corners, in their order.
-#[derive(Drop)]
+#[derive(Clone, Copy)]
 pub enum Triangle {
     Corners(u16, u16, u16),
     NoTriangle,

@@ -11,7 +11,7 @@ ghost use Rattle.text_read_job.specs.Parts.{Ends, Comes};
 use text_parse::{Triangle, Vertex, Weight};
 
 // Lines that were read, with the position after them; or the number of the line that breaks the layout.
-#[derive(Drop)]
+#[derive(Clone, Copy)]
 pub enum Lines {
     Next(usize),
     BrokenAt(usize),
@@ -23,7 +23,7 @@ pub const MOST_BYTES: usize = 16_384;
 pub const MOST_VERTICES: usize = 256;
 
 // What a text comes to: a job on n vertices, a text that is too long, an n that is refused, or a line that breaks the layout.
-#[derive(Drop)]
+#[derive(Clone, Copy)]
 pub enum Reading {
     Job(usize),
     TooLong,

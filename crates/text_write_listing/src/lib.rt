@@ -8,7 +8,7 @@ ghost use Rattle.text_model.specs.Writing.{Wrote, head_of, vertex_line, vertex_l
 ghost use Rattle.text_write_listing.specs.Answer.{Listing};
 
 // How many bytes were written; or the buffer is too short, and keeps its contents.
-#[derive(Drop)]
+#[derive(Clone, Copy)]
 pub enum Listed {
     Bytes(usize),
     Short,
