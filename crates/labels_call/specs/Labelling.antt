@@ -1,19 +1,15 @@
 -- What scratch holds after the mesh check and the labels stage, and that the labels read from it are the definition's. Assumes nothing.
-use Rattle.std.specs.Prelude.{ℕ, zero, suc, ◌+◌, ◌*◌, ◌/◌, ◌%◌, ◌<◌, ◌≡◌, refl, List, [], ◌∷◌, length, get_or, set, ℤ}
-use Rattle.std.proofs.Common.{sym, ◌∙◌, arith, length-set, ext_get_or, get_or-set_same, get_or-set_other}
+use Rattle.std.specs.Prelude.{ℕ, zero, suc, ◌+◌, ◌*◌, ◌/◌, ◌%◌, ◌<◌, ◌≡◌, refl, List, [], ◌∷◌, length, get_or, ℤ}
+use Rattle.std.proofs.Common.{sym, ◌∙◌, arith, ext_get_or}
 use Rattle.std.proofs.Math.Option.{none, some}
-use Rattle.std.proofs.Math.Decide.{dec_lt, ℕ_discrete}
 use Rattle.std.proofs.Math.Numerals.{add-three}
-use Rattle.std.proofs.Math.ListN.{get_or-eq_default}
 use Rattle.definitions.specs.Mesh.{labels_length, fronted, org, opp}
 use Rattle.definitions.specs.Answers.{first_refusal}
 use Rattle.definitions.specs.Labels.{labels, label}
-use Rattle.laws.specs.Lists.{get_or_in}
 use Rattle.theory_sphere.specs.Sphere.{Sphere}
 use Rattle.theory_sphere.specs.Accept.{accepted_sphere}
 use Rattle.theory_sphere.specs.FirstRefusal.{rim_rows}
-use Rattle.theory_peeling.specs.Labelled.{labels_exact, labels-below}
-use Rattle.scratch_tables.specs.Tables.{tables_of}
+use Rattle.theory_peeling.specs.Labelled.{labels_exact}
 use Rattle.mesh_tables.specs.Incidence.{incidence_of, incidence}
 use Rattle.labels_tables.specs.Peeling.{peeling_of, peeling}
 use Rattle.labels_tables.specs.LabelledTables.{Peeled, label_in, label_in_is}

@@ -1,12 +1,12 @@
 -- The tables of the labels stage, and where their entries stand in scratch. Assumes nothing.
 -- A dart's word has its turn, its origin and, where it is the first of a triangle, the corner with label 2. A vertex's word has its frontier degree and
 -- its two frontier darts. The marks' words have the sets of the search, and the odd marks the order of removal.
-use Rattle.std.specs.Prelude.{ℕ, ◌+◌, ◌*◌, ◌<◌, ◌^◌, ◌≡◌, refl, List, ℤ}
+use Rattle.std.specs.Prelude.{ℕ, ◌+◌, ◌*◌, ◌<◌, ◌≡◌, List, ℤ}
 use Rattle.std.proofs.Common.{sym, ◌∙◌, arith}
 use Rattle.std.proofs.Math.Path.{ap, fun_ext}
 use Rattle.std.proofs.Math.Decide.{ℕ_discrete}
-use Rattle.scratch_tables.specs.Tables.{Tables, tables_of, upd, upd-at, upd_other, set_op, set_head, set_count, set_mark}
-use Rattle.scratch_tables.specs.Fields.{pack, field0, field1, field2, field0_is, field1_is, field2_is, field0_small, field1_small, field2_small}
+use Rattle.scratch_tables.specs.Tables.{Tables, tables_of, upd, upd-at, upd_other, set_op, set_head, set_mark}
+use Rattle.scratch_tables.specs.Fields.{pack, field0, field1, field2, field0_is, field1_is, field2_is, field0_small, field1_small}
 use Rattle.scratch_tables.specs.Fields.{field-set, field-kept}
 
 pub record Peeling : Type 0 where

@@ -1,5 +1,5 @@
 -- The steps of the mesh check put together: what scratch holds after each, and which row it has found. Assumes nothing.
-use Rattle.std.specs.Prelude.{ℕ, ◌+◌, ◌-◌, ◌*◌, ◌/◌, ◌%◌, ◌≤◌, ◌<◌, ◌^◌, ◌≡◌, Bool, true, false, List, ◌∷◌, length, ℤ}
+use Rattle.std.specs.Prelude.{ℕ, ◌+◌, ◌-◌, ◌*◌, ◌/◌, ◌≤◌, ◌<◌, ◌≡◌, Bool, true, false, List, ◌∷◌, length, ℤ}
 use Rattle.std.proofs.Common.{sym, ap, ◌∙◌, arith}
 use Rattle.std.proofs.Math.Option.{none, some}
 use Rattle.std.proofs.Math.Decide.{dec_lt}
@@ -10,8 +10,7 @@ use Rattle.definitions.specs.Refusals.{Slice, slice, most_vertices, row21, mesh_
 use Rattle.theory_sphere.specs.Darts.{prev-below}
 use Rattle.theory_sphere.specs.Rows.{row3_means, outgoing_in}
 use Rattle.theory_sphere.specs.Sides.{Sides}
-use Rattle.theory_sphere.specs.Sphere.{Sphere}
-use Rattle.theory_sphere.specs.Accept.{row1-range, range-row1, accepted_sphere}
+use Rattle.theory_sphere.specs.Accept.{row1-range, range-row1}
 use Rattle.lent_slices.specs.Calls.{Fits}
 use Rattle.laws.specs.Lists.{unfalse}
 use Rattle.theory_sphere.specs.Fronted.{length-fronted}
@@ -19,7 +18,7 @@ use Rattle.theory_sphere.specs.Renumbered.{same-3}
 use Rattle.theory_sphere.specs.FrontedRows.{renumbered-fronted}
 use Rattle.theory_sphere.specs.FirstRefusal.{rim_rows, rim-21, rim-mesh, row21_means, row2-cons, clean_refusal, mesh-3, mesh-4, mesh-5, mesh-6, mesh-8}
 use Rattle.theory_sphere.specs.VertexRefusals.{Passed, in_order, from_vertex}
-use Rattle.scratch_tables.specs.Tables.{Tables, VerticesCleared, tables_of, column, vertex_in}
+use Rattle.scratch_tables.specs.Tables.{VerticesCleared, tables_of}
 use Rattle.mesh_tables.specs.Incidence.{Incidence, incidence}
 use Rattle.mesh_model.specs.IncidenceLists.{fill, zeros_empty}
 use Rattle.mesh_model.specs.RingWalk.{first_broken, first_broken_is}

@@ -1,10 +1,10 @@
 -- The tables of the mesh check, and where their entries stand in scratch. Assumes nothing.
 -- A dart's word has its turn and its origin. A vertex's word has the first dart of its list and their number. The marks' words have the marks of row 5.
-use Rattle.std.specs.Prelude.{ℕ, ◌<◌, ◌≡◌, refl, List, ℤ}
+use Rattle.std.specs.Prelude.{ℕ, ◌<◌, ◌≡◌, List, ℤ}
 use Rattle.std.proofs.Common.{arith, ◌∙◌}
 use Rattle.std.proofs.Math.Path.{ap}
 use Rattle.scratch_tables.specs.Tables.{Tables, tables_of, upd, set_op, set_head, set_count}
-use Rattle.scratch_tables.specs.Fields.{pack, field0, field1, field0_is, field1_is, field0_small, field1_small, field-set, field-kept}
+use Rattle.scratch_tables.specs.Fields.{pack, field0, field1, field0_is, field1_is, field1_small, field-set, field-kept}
 
 pub record Incidence : Type 0 where
   -- of a dart: the one after it in the list of its origin, and once the sides are matched the next one round its origin, which is the opposite of the

@@ -2,7 +2,7 @@
 -- A tenth of the words is one column. Six columns are `op`, a word for each dart; one is `head` and one `count`, a word for each vertex; and two are
 -- `mark`, two words for each vertex, the even ones in one column and the odd ones in the other. So each stands in one piece. What the words hold is the
 -- matter of each stage. An index past its table reads as 0 and is not stored to.
-use Rattle.std.specs.Prelude.{ℕ, zero, ◌+◌, ◌*◌, ◌/◌, ◌%◌, ◌≤◌, ◌<◌, ◌^◌, ◌≡◌, refl, ◌≢◌, cond, List, map, eqb, ltb, get_or, set, ℤ, pos}
+use Rattle.std.specs.Prelude.{ℕ, ◌+◌, ◌*◌, ◌/◌, ◌%◌, ◌≤◌, ◌<◌, ◌^◌, ◌≡◌, refl, ◌≢◌, cond, List, map, eqb, ltb, get_or, set, ℤ, pos}
 use Rattle.std.proofs.Common.{arith, ap, ◌∙◌, get_or-set_same, get_or-set_other, ext_get_or, of_z, lt-ltb, le-ltb, eq-eqb, ne_eqb}
 use Rattle.std.proofs.Math.Path.{sym, fun_ext}
 use Rattle.std.proofs.Math.ListN.{length, length-set, get_or-map}

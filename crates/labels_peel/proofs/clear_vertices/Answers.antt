@@ -1,5 +1,5 @@
 -- `labels_peel::clear_vertices` meets its contract: what is left to wipe comes to the whole. Assumes nothing.
-use Rattle.std.proofs.Common.{rules, ◌-◌}
+use Rattle.std.proofs.Common.{rules}
 use Rattle.labels_peel.specs.LoopLaws.{clear_vertices-more, clear_vertices-over}
 use Rattle.labels_peel.proofs.clear_vertices.Goals as goal
 

@@ -1,5 +1,5 @@
 -- `labels_peel::find_removable` meets its contract: the rest of the search comes to the whole of it. Assumes nothing.
-use Rattle.std.proofs.Common.{rules, sym, ◌-◌, ◌∙◌}
+use Rattle.std.proofs.Common.{rules, sym, ◌∙◌}
 use Rattle.labels_model.specs.Preconditions.{room_kept}
 use Rattle.labels_peel.specs.LoopLaws.{search_start, search_asks, search_vertex, search_over, search_less, search_on}
 use Rattle.labels_peel.proofs.find_removable.Goals as goal

@@ -1,5 +1,5 @@
 -- `labels_search::clear_sets` meets its contract. The loop's invariant: the words passed are zero. Assumes nothing.
-use Rattle.std.proofs.Common.{rules, ◌-◌}
+use Rattle.std.proofs.Common.{rules}
 use Rattle.labels_search.specs.Stores.{cleared_none, cleared_more}
 use Rattle.labels_search.proofs.clear_sets.Goals as goal
 

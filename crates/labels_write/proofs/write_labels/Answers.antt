@@ -1,5 +1,5 @@
 -- `labels_write::write_labels` meets its contract: triangle by triangle. Assumes nothing.
-use Rattle.std.proofs.Common.{arith, ◌-◌}
+use Rattle.std.proofs.Common.{arith}
 use Rattle.labels_write.specs.Writing.{writing_more}
 use Rattle.labels_write.proofs.write_labels.Goals as goal
 

@@ -1,5 +1,4 @@
 -- `lent_slices::other_length` meets its contract. The loop's invariant: the lengths from i on find what all find. Assumes nothing.
-use Rattle.std.proofs.Common.{◌-◌}
 use Rattle.lent_slices.specs.Lengths.{comparing_found, comparing_next, comparing_end}
 use Rattle.lent_slices.proofs.other_length.Goals as goal
 

@@ -1,5 +1,4 @@
 -- `mesh_connectivity::explore` meets its contract. The loop's invariant: the triangles that are left from here on give what all give. Assumes nothing.
-use Rattle.std.proofs.Common.{◌-◌}
 use Rattle.mesh_connectivity.specs.FloodFillLoops.{exploring_leaves, exploring_next, explored_soon, explored_all}
 use Rattle.mesh_connectivity.proofs.explore.Goals as goal
 

@@ -1,5 +1,4 @@
 -- `mesh_rings::check_rings` meets its contract. The loop's invariant: the vertices from v on find what all of them find. Assumes nothing.
-use Rattle.std.proofs.Common.{◌-◌}
 use Rattle.mesh_rings.specs.RingLoops.{testing_found, testing_next, testing_none}
 use Rattle.mesh_rings.proofs.check_rings.Goals as goal
 

@@ -1,5 +1,4 @@
 -- `mesh_rings::returns_to` meets its contract. The loop's invariant: the turns from d on find what all turns find. Assumes nothing.
-use Rattle.std.proofs.Common.{◌-◌}
 use Rattle.mesh_rings.specs.RingLoops.{rotating_back, rotating_next, rotating_none}
 use Rattle.mesh_rings.proofs.returns_to.Goals as goal
 

@@ -1,5 +1,4 @@
 -- `mesh_sides::duplicate_side` meets its contract. The loop's invariant: the vertices from v on give what all of them give. Assumes nothing.
-use Rattle.std.proofs.Common.{◌-◌}
 use Rattle.mesh_sides.specs.LoopInvariants.{scanning_start, scanning_at, scanning_found, scanning_next, scanning_none}
 use Rattle.mesh_sides.proofs.duplicate_side.Goals as goal
 

@@ -1,5 +1,5 @@
 -- `mesh_sides::high_vertex` meets its contract: the highest of the corners passed is known. Assumes nothing.
-use Rattle.std.proofs.Common.{arith, ◌-◌}
+use Rattle.std.proofs.Common.{arith}
 use Rattle.mesh_sides.specs.HighestVertex.{highest_next, highest_tells}
 use Rattle.mesh_sides.proofs.high_vertex.Goals as goal
 

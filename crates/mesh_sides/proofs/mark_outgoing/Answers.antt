@@ -1,5 +1,4 @@
 -- `mesh_sides::mark_outgoing` meets its contract. The loop's invariant: the walk from e on gives what the whole walk gives. Assumes nothing.
-use Rattle.std.proofs.Common.{◌-◌}
 use Rattle.mesh_sides.specs.LoopInvariants.{marking_start, marking_dart, marking_beside, marking_next, marked_found, marked_none}
 use Rattle.mesh_sides.proofs.mark_outgoing.Goals as goal
 

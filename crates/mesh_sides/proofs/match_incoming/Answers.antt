@@ -1,5 +1,4 @@
 -- `mesh_sides::match_incoming` meets its contract. The loop's invariant: the walk from e on gives what the whole walk gives. Assumes nothing.
-use Rattle.std.proofs.Common.{◌-◌}
 use Rattle.mesh_sides.specs.LoopInvariants.{tying_start, tying_dart, tying_beside, tying_next, tied_lacks, tied-none}
 use Rattle.mesh_sides.proofs.match_incoming.Goals as goal
 

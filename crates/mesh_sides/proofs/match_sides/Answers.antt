@@ -1,5 +1,4 @@
 -- `mesh_sides::match_sides` meets its contract. The loop's invariant: the vertices from v on give what all of them give. Assumes nothing.
-use Rattle.std.proofs.Common.{◌-◌}
 use Rattle.mesh_sides.specs.LoopInvariants.{matching_start, matching_at, matching_twice, marked_at, tied_ready, tied_round, matching_next}
 use Rattle.mesh_sides.specs.LoopInvariants.{matching_later, matching_lacks, matching_none}
 use Rattle.mesh_sides.proofs.match_sides.Goals as goal
