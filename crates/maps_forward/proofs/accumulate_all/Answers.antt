@@ -1,5 +1,5 @@
 -- `maps_forward::accumulate_all` meets its contract. The loop's invariant: the vertices passed have left. Assumes nothing.
-use Rattle.std.proofs.Common.{rules, ◌-◌}
+use Rattle.std.proofs.Common.{rules}
 use Rattle.labels_tables.specs.Peeling.{peeling}
 use Rattle.maps_forward.specs.LoopLaws.{accumulate_all-none, accumulate_all-next}
 use Rattle.maps_forward.proofs.accumulate_all.Goals as goal

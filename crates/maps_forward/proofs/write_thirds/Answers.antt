@@ -1,5 +1,5 @@
 -- `maps_forward::write_thirds` meets its contract. The loop's invariant: the vertices passed have their third coordinate. Assumes nothing.
-use Rattle.std.proofs.Common.{arith, ◌-◌, ◌∙◌}
+use Rattle.std.proofs.Common.{arith, ◌∙◌}
 use Rattle.int64.specs.Whole.{held}
 use Rattle.maps_forward_model.specs.Thirds.{thirds_none, thirds_next}
 use Rattle.maps_forward.specs.LoopLaws.{first-at}

@@ -1,5 +1,4 @@
 -- `maps_limits::low_above_high` meets its contract. The loop's invariant: the lows passed are at most their highs. Assumes nothing.
-use Rattle.std.proofs.Common.{◌-◌}
 use Rattle.int64.specs.Whole.{values}
 use Rattle.maps_limits.specs.Limits.{fitting_more, fitting_fails, fitting_all}
 use Rattle.maps_limits.proofs.low_above_high.Goals as goal

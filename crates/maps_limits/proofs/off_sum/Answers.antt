@@ -1,5 +1,4 @@
 -- `maps_limits::off_sum` meets its contract. The loop's invariant: the vertices passed have the sum that is wanted. Assumes nothing.
-use Rattle.std.proofs.Common.{◌-◌}
 use Rattle.maps_limits.specs.Limits.{balanced_fails, balanced-all}
 use Rattle.maps_limits.proofs.off_sum.Goals as goal
 

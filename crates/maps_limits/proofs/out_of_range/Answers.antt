@@ -1,5 +1,4 @@
 -- `maps_limits::out_of_range` meets its contract. The loop's invariant: the coordinates passed are within the limit. Assumes nothing.
-use Rattle.std.proofs.Common.{◌-◌}
 use Rattle.int64.specs.Whole.{size_is, values}
 use Rattle.maps_limits.specs.Limits.{limited_past, limited_all}
 use Rattle.maps_limits.proofs.out_of_range.Goals as goal

@@ -1,6 +1,5 @@
 -- `maps_limits::past_limit` meets its contract. The loop's invariant: the sum so far and the absolute values still to come make up the whole, and the sum is
 -- within the limit. Assumes nothing.
-use Rattle.std.proofs.Common.{◌-◌}
 use Rattle.int64.specs.Whole.{size_is, values}
 use Rattle.maps_limits.specs.Limits.{summed_more, summed_past, summed_all}
 use Rattle.maps_limits.proofs.past_limit.Goals as goal
