@@ -4,7 +4,6 @@ use Rattle.std.specs.Prelude.{ℕ, ◌+◌, ◌-◌, ◌*◌, ◌≤◌, ◌<◌
 use Rattle.std.proofs.Math.Path.{refl}
 use Rattle.std.proofs.Common.{sym, ap, ◌∙◌, inl, inr, arith}
 use Rattle.std.proofs.Math.Decide.{ℕ_discrete}
-use Rattle.definitions.specs.Lists.{total}
 use Rattle.definitions.specs.Repair.{limit, finished, stopped}
 use Rattle.definitions.specs.Answers.{done, refused, stopped_after}
 use Rattle.definitions.specs.Refusals.{row10, repair_answer}

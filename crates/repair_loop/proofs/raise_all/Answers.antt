@@ -1,6 +1,6 @@
 -- `repair_loop::raise_all` meets its contract. The loop's invariant: the definition's loop goes on from here. The measure is the definition's fuel, which
 -- never runs out. Assumes nothing.
-use Rattle.std.proofs.Common.{arith, rules, ◌-◌, ◌∙◌}
+use Rattle.std.proofs.Common.{arith, rules, ◌∙◌}
 use Rattle.int64.specs.Whole.{held}
 use Rattle.repair_loop.specs.LoopInvariants.{start_search, start_some, loops-begin, now, can_weigh, can_raise, fueled, next_search, loops_again}
 use Rattle.repair_loop.specs.LoopInvariants.{loop_stops, loop_ends}

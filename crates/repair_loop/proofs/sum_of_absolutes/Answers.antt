@@ -1,6 +1,5 @@
 -- `repair_loop::sum_of_absolutes` meets its contract. The loop's invariant: the sum so far and the absolute values still to come make up the whole, which is
 -- within the limit. Assumes nothing.
-use Rattle.std.proofs.Common.{◌-◌}
 use Rattle.int64.specs.Whole.{size_is, values}
 use Rattle.repair_loop.specs.Start.{total-more, total-all}
 use Rattle.repair_loop.proofs.sum_of_absolutes.Goals as goal

@@ -1,5 +1,5 @@
 -- `repair_preorder::accumulate_sizes` meets its contract. The loop's invariant: so many steps of the pass are done. Assumes nothing.
-use Rattle.std.proofs.Common.{arith, refl, rules, ◌-◌}
+use Rattle.std.proofs.Common.{arith, refl, rules}
 use Rattle.repair_preorder.specs.Model.{upward, add_size}
 use Rattle.repair_preorder.specs.LoopInvariants.{up_next, up_pass_pre, parent_low, odd_add}
 use Rattle.repair_preorder.proofs.accumulate_sizes.Goals as goal

@@ -1,5 +1,5 @@
 -- `repair_preorder::init_sizes` meets its contract. The loop's invariant: the vertices passed count for themselves. Assumes nothing.
-use Rattle.std.proofs.Common.{arith, refl, rules, ◌-◌}
+use Rattle.std.proofs.Common.{arith, refl, rules}
 use Rattle.repair_preorder.specs.Model.{upward, init_size}
 use Rattle.repair_preorder.specs.LoopInvariants.{up_next}
 use Rattle.repair_preorder.proofs.init_sizes.Goals as goal

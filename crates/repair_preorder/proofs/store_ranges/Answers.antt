@@ -1,5 +1,5 @@
 -- `repair_preorder::store_ranges` meets its contract. The loop's invariant: so many triangles are done, the outer one among them. Assumes nothing.
-use Rattle.std.proofs.Common.{arith, rules, ◌-◌}
+use Rattle.std.proofs.Common.{arith, rules}
 use Rattle.repair_preorder.specs.Model.{upward, store_range}
 use Rattle.repair_preorder.specs.LoopInvariants.{up_next, range_pre}
 use Rattle.repair_preorder.proofs.store_ranges.Goals as goal

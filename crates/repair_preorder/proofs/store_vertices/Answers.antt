@@ -1,5 +1,5 @@
 -- `repair_preorder::store_vertices` meets its contract. The loop's invariant: so many steps of the pass are done. Assumes nothing.
-use Rattle.std.proofs.Common.{arith, refl, rules, ◌-◌}
+use Rattle.std.proofs.Common.{arith, refl, rules}
 use Rattle.repair_preorder.specs.Model.{upward, store_vertex}
 use Rattle.repair_preorder.specs.LoopInvariants.{up_next, up_pass_pre, odd_store}
 use Rattle.repair_preorder.proofs.store_vertices.Goals as goal

@@ -1,6 +1,6 @@
 -- `repair_update::add_to_range` meets its contract. The loop's invariant: the entries passed have moved, and the numbers are no larger than so many additions
 -- make them. Assumes nothing.
-use Rattle.std.proofs.Common.{of_z, to_z, to_z-of_z, w64, ◌-◌}
+use Rattle.std.proofs.Common.{of_z, to_z, to_z-of_z, w64}
 use Rattle.repair_update.specs.RangeLoop.{range_none, range-next}
 use Rattle.repair_update.proofs.add_to_range.Goals as goal
 

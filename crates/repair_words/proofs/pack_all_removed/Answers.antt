@@ -1,6 +1,6 @@
 -- `repair_words::pack_all_removed` meets its contract. The loop's invariant: the vertices passed have their words, the others are as they were.
 -- Assumes nothing.
-use Rattle.std.proofs.Common.{arith, rules, ◌-◌}
+use Rattle.std.proofs.Common.{arith, rules}
 use Rattle.scratch_tables.specs.Tables.{tables_of}
 use Rattle.repair_words.specs.LoopInvariants.{removed-next, removed_pre}
 use Rattle.repair_words.proofs.pack_all_removed.Goals as goal

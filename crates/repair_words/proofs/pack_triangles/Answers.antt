@@ -1,5 +1,5 @@
 -- `repair_words::pack_triangles` meets its contract. The loop's invariant: the triangles passed have their words, the others are as they were. Assumes nothing.
-use Rattle.std.proofs.Common.{arith, rules, ◌-◌}
+use Rattle.std.proofs.Common.{arith, rules}
 use Rattle.scratch_tables.specs.Tables.{tables_of}
 use Rattle.repair_words.specs.LoopInvariants.{triangles-next, triangle_pre}
 use Rattle.repair_words.proofs.pack_triangles.Goals as goal
