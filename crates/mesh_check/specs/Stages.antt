@@ -21,7 +21,8 @@ use Rattle.theory_sphere.specs.VertexRefusals.{Passed, in_order, from_vertex}
 use Rattle.scratch_tables.specs.Tables.{VerticesCleared, tables_of}
 use Rattle.mesh_tables.specs.Incidence.{Incidence, incidence}
 use Rattle.mesh_model.specs.IncidenceLists.{fill, zeros_empty}
-use Rattle.mesh_model.specs.RingWalk.{first_broken, first_broken_is}
+use Rattle.mesh_model.specs.RingWalk.{first_broken}
+use Rattle.mesh_model.proofs.RingWalk.{first_broken_is}
 use Rattle.mesh_model.specs.FloodFill.{Pairs, explore_is}
 use Rattle.mesh_rings.specs.RingLoops.{AllRounding}
 use Rattle.mesh_sides.specs.Room.{Ready, Filling, filled_ready}

@@ -7,7 +7,8 @@ use Rattle.mesh_tables.specs.Incidence.{Incidence, incidence, with_turn, with_ma
 use Rattle.mesh_model.specs.IncidenceLists.{Origins, fill, fill_buckets, fill_unmarked, Rooted, bucketed_rooted}
 use Rattle.mesh_model.specs.Bounds.{fill_origins}
 use Rattle.mesh_model.specs.Opposites.{Told, twice, lacking, paired, join_all_told}
-use Rattle.mesh_model.specs.RingWalk.{one_ring, first_broken, rings_unbroken}
+use Rattle.mesh_model.specs.RingWalk.{one_ring, first_broken}
+use Rattle.mesh_model.proofs.RingWalk.{rings_unbroken}
 use Rattle.mesh_sides.specs.Room.{Filling}
 use Rattle.mesh_sides.specs.LoopInvariants.{joined_all, AllMatched}
 

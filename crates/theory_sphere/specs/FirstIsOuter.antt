@@ -1,14 +1,13 @@
 -- The calls on a mesh as they stood before C-12, when the first triangle was the outer one. With the outer number 0 each call is what it was, for every n
 -- and all slices: its answer, and what each slice holds at the end. With another that 21 lets through, it is what it was with that triangle moved to the
--- front; and the mesh check does not depend on the outer number. Assumes nothing.
+-- front. That the mesh check does not depend on the outer number is in proofs/FirstIsOuter. Assumes nothing.
 use Rattle.std.specs.Prelude.{ℕ, ◌-◌, ◌*◌, ◌<◌, ◌≡◌, ◌⊎◌, true, false, ℤ, length}
-use Rattle.std.proofs.Math.Path.{sym}
-use Rattle.std.proofs.Common.{◌∙◌, subst, arith}
+use Rattle.std.proofs.Common.{subst, arith}
 use Rattle.std.proofs.Math.Logic.{inl, inr}
 use mathlib.Core.List.{List, [], ◌∷◌, ◌++◌}
 use Rattle.std.proofs.Math.Option.{Option, none, some}
-use Rattle.definitions.specs.Answers.{Refusal, numbered, refused, Row, row, first_refusal, answer_of}
-use Rattle.definitions.specs.Mesh.{triangles_length, labels_length, weights_length, coordinates_length, scratch_length, fronted}
+use Rattle.definitions.specs.Answers.{Refusal, refused, Row, row, first_refusal, answer_of}
+use Rattle.definitions.specs.Mesh.{labels_length, weights_length, coordinates_length, fronted}
 use Rattle.definitions.specs.Labels.{labels}
 use Rattle.definitions.specs.Forward.{forward}
 use Rattle.definitions.specs.Backward.{backward}
@@ -18,8 +17,7 @@ use Rattle.definitions.specs.Refusals.{Checked, check_call, Labelled, labels_cal
 use Rattle.definitions.specs.Refusals.{repair_answer, repair_call, lent_refusal, call_refusal}
 use Rattle.laws.specs.Lists.{tested}
 use Rattle.theory_sphere.specs.Fronted.{fronted-0, length-fronted}
-use Rattle.theory_sphere.specs.FrontedRows.{rows-fronted}
-use Rattle.theory_sphere.specs.FirstRefusal.{row-found, refusal-found, same_behind, same_more, row2-cons, lent, row21_means}
+use Rattle.theory_sphere.specs.FirstRefusal.{lent, row21_means}
 use Rattle.theory_sphere.specs.Accept.{row1-range}
 
 -- ---- as they stood
@@ -118,28 +116,3 @@ as_it_was n ts =
       | inl t ↦ inl t
       | inr t ↦ inr ((row21_means n 0).1 (omega (arith, row1-range most_vertices n t)))
     ]))
-
--- ---- the mesh check
-
-module _ (n p : ℕ) (ts : List ℕ) (there : p < 2 * n - 4) where
-  found_anywhere : (scratch : List ℤ) (slices : List Slice) (own : List Row) →
-      call_refusal_before n (fronted p ts) scratch slices own ≡ call_refusal_before n ts scratch slices own
-  unfolding call_refusal_before
-  found_anywhere scratch slices own =
-      let one = row 1 (λ _. row1 most_vertices n) in
-      let two = row 2 (λ _. row2 (lent n ts scratch slices)) in
-      let theirs = mesh_rows n (fronted p ts) ++ own in
-      let ours = mesh_rows n ts ++ own in
-      rw (length-fronted p ts) (same_behind one (two ∷ theirs) (two ∷ ours) (elim (tested (row2 (lent n ts scratch slices))) [
-        | inl t ↦
-            let stops = row-found 2 (λ _. row2 (lent n ts scratch slices)) t in
-            refusal-found two theirs (numbered 2) stops ∙ sym (refusal-found two ours (numbered 2) stops)
-        | inr t ↦
-            let e = ((row2-cons (length ts) (triangles_length n) (slice (length scratch) (scratch_length n) ∷ slices)).0 t).0 in
-            same_behind two theirs ours (same_more (mesh_rows n (fronted p ts)) (mesh_rows n ts) own (rows-fronted n p ts there e))
-      ]))
-
-  -- It does not depend on the outer number, where 21 lets that through.
-  pub check_anywhere : (scratch : List ℤ) → check_call n p ts scratch ≡ check_call_before n ts scratch
-  unfolding check_call_before
-  check_anywhere scratch = (as_fronted n p ts there).check scratch ∙ rw (found_anywhere scratch [] [])

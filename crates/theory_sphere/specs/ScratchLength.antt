@@ -1,8 +1,8 @@
 -- Row 2 asks one thing of scratch, its length. Where it has the length that is asked for, a call finds what it would find were nothing asked of scratch; so
--- it finds the same with the 24n words that were asked for before C-20 and with 10n. Assumes nothing.
+-- it finds the same with the 24n words that were asked for before C-20 and with 10n (proofs/ScratchLength). Assumes nothing.
 use Rattle.std.specs.Prelude.{ℕ, ◌*◌, ◌≡◌, Bool, not, ◌||◌, List, ◌∷◌, ◌++◌, ℤ, length}
 use Rattle.std.proofs.Math.Path.{refl, ap}
-use Rattle.std.proofs.Common.{sym, ◌∙◌, eq-eqb}
+use Rattle.std.proofs.Common.{eq-eqb}
 use Rattle.std.proofs.Math.Option.{Option}
 use Rattle.definitions.specs.Lists.{any}
 use Rattle.definitions.specs.Answers.{Refusal, Row, row, first_refusal}
@@ -35,8 +35,3 @@ module _ (n outer_place : ℕ) (ts : List ℕ) (slices : List Slice) (own : List
   pub length_alone : (words : ℕ) (scratch : List ℤ) → length scratch ≡ words → found_asking words scratch ≡ found_without
   unfolding found_asking found_without
   length_alone words scratch e = ap found_with (fits (slice (length ts) (triangles_length n)) (length scratch) words slices e)
-
-  -- so nothing moved with C-20 but the length
-  pub found_before : (before now : List ℤ) → length before ≡ 24 * n → length now ≡ 10 * n →
-      found_asking (24 * n) before ≡ call_refusal n outer_place ts now slices own
-  found_before before now e f = length_alone (24 * n) before e ∙ sym (length_alone (10 * n) now f) ∙ sym (asks_10n now)
