@@ -22,7 +22,7 @@ use Rattle.mesh_answer.specs.declared.MeshAnswer.TheVariants.{Accepted, Refused}
 use Rattle.labels_model.specs.Counters.{Meshed}
 use Rattle.labels_model.specs.Model.{peel_tables}
 use Rattle.labels_model.specs.Preconditions.{Room, HasMesh, has_mesh}
-use Rattle.labels_model.specs.Result.{peeled_tables}
+use Rattle.labels_model.proofs.Result.{peeled_tables}
 
 -- no row has found anything, and scratch holds the labels of the mesh and the trace of its peeling
 pub record LabelledRim (n outer_place : ℕ) (ts : List ℕ) (s : List ℤ) : Type 0 where

@@ -18,7 +18,7 @@ use Rattle.labels_model.specs.FrontierInsert.{count_neighbour_beside, count_neig
 use Rattle.labels_model.specs.FrontierRemove.{decrement_degree-same, decrement_degree-other}
 use Rattle.labels_model.specs.LabelTriangle.{pass_turn, pass_origin}
 use Rattle.labels_model.specs.Preconditions.{Room, CanEnter, CanPass, CanLeave, has_range, enter_ends, pass_mesh, pass_dart, pass_ends, pass_enter}
-use Rattle.labels_model.specs.Preconditions.{pass_on, leave-mesh, leave_vertex, leave-left, leave_right, left-two, right_two, leave_pass}
+use Rattle.labels_model.proofs.Preconditions.{pass_on, leave-mesh, leave_vertex, leave-left, leave_right, left-two, right_two, leave_pass}
 
 -- ---- room
 

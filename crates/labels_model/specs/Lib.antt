@@ -1,4 +1,4 @@
--- The work of the peeling on the tables, and that it does what the peeling does.
+-- The work of the peeling on the tables, and what it keeps of the peeling that it follows.
 pub mod Model
 pub mod Counters
 pub mod NeighbourCounts
@@ -9,10 +9,6 @@ pub mod LabelFan
 pub mod Candidates
 pub mod MinSearch
 pub mod FrontierInvariant
-pub mod Choice
-pub mod Step
 pub mod Simulation
-pub mod Init
-pub mod Result
 pub mod Turns
 pub mod Preconditions

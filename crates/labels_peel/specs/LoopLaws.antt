@@ -17,9 +17,10 @@ use Rattle.labels_model.specs.Model.{clear_vertices, init_degrees, init_frontier
 use Rattle.labels_model.specs.Counters.{with_sets_beside, with_sets-degree}
 use Rattle.labels_model.specs.Candidates.{can_same}
 use Rattle.labels_model.specs.MinSearch.{Lowest, some_left, lowest_vertex, lowest-before, taken, taken_higher}
-use Rattle.labels_model.specs.Init.{clear-turn, clear-origin}
+use Rattle.labels_model.proofs.Init.{clear-turn, clear-origin}
 use Rattle.labels_model.specs.Simulation.{remove_all-suc}
-use Rattle.labels_model.specs.Preconditions.{Room, HasMesh, CanSearch, Stands, mesh-kept, has_range, stands_next, stands_start}
+use Rattle.labels_model.specs.Preconditions.{Room, HasMesh, CanSearch, Stands, mesh-kept, has_range}
+use Rattle.labels_model.proofs.Preconditions.{stands_next, stands_start}
 
 -- ---- the search
 

@@ -1,6 +1,7 @@
 -- `labels_peel::remove_next` meets its contract. Assumes nothing.
 use Rattle.std.proofs.Common.{arith, rules}
-use Rattle.labels_model.specs.Preconditions.{room_kept, stands_search, stands_leave}
+use Rattle.labels_model.specs.Preconditions.{room_kept}
+use Rattle.labels_model.proofs.Preconditions.{stands_search, stands_leave}
 use Rattle.labels_peel.specs.LoopLaws.{remove_next_is}
 use Rattle.labels_peel.proofs.remove_next.Goals as goal
 

@@ -24,7 +24,8 @@ use Rattle.labels_model.specs.FrontierRemove.{leave_frontier-order, leave_fronti
 use Rattle.labels_model.specs.FrontierRemove.{leave_frontier-apex, leave_frontier_lefts, leave_frontier_rights, leave_frontier-marks}
 use Rattle.labels_model.specs.FrontierRemove.{left-degree, right_degree}
 use Rattle.labels_model.specs.LabelTriangle.{Coded}
-use Rattle.labels_model.specs.LabelFan.{marked_same, fan_shape, across, across-org, across-tip, Fanned, Fresh, fanned}
+use Rattle.labels_model.specs.LabelFan.{marked_same, fan_shape, across, across-org, across-tip, Fanned, Fresh}
+use Rattle.labels_model.proofs.LabelFan.{fanned}
 use Rattle.labels_model.specs.FrontierInvariant.{tips_once, on, true-on, on-true, false-on, Stood, on-there, on_below, tip-on}
 
 module _ (n : ℕ) (ts : List ℕ) (s : Sphere n (length ts / 3) (org ts) (opp ts)) (len : 3 * (length ts / 3) ≡ length ts)

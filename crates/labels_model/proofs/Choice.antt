@@ -16,7 +16,7 @@ use Rattle.theory_peeling.specs.Inside.{three, Inv, Chordless, org_opp2, tip_opp
 use Rattle.theory_peeling.specs.Vertices.{state, removable-inner, removable_chordless, two-removable, outer0, outer1}
 use Rattle.labels_tables.specs.Peeling.{Peeling}
 use Rattle.labels_model.specs.Model.{is_removable}
-use Rattle.labels_model.specs.Candidates.{can_true, true_can}
+use Rattle.labels_model.proofs.Candidates.{can_true, true_can}
 use Rattle.labels_model.specs.NeighbourCounts.{met}
 use Rattle.labels_model.specs.FrontierInsert.{Marked}
 use Rattle.labels_model.specs.FrontierInvariant.{on, Stood, on_below, beside, neighbours_met}

@@ -26,8 +26,9 @@ use Rattle.labels_tables.specs.LabelledTables.{label_in, Peeled, outer-label, in
 use Rattle.labels_model.specs.Model.{init, peel_tables}
 use Rattle.labels_model.specs.Counters.{Meshed}
 use Rattle.labels_model.specs.LabelTriangle.{dart-inner, Coded}
-use Rattle.labels_model.specs.Simulation.{Followed, follow}
-use Rattle.labels_model.specs.Init.{begun}
+use Rattle.labels_model.specs.Simulation.{Followed}
+use Rattle.labels_model.proofs.Simulation.{follow}
+use Rattle.labels_model.proofs.Init.{begun}
 
 -- the labels of a triangle, by the corner g that has label 2
 module _ (g d a : ℕ) (e : a ≡ g % 3) where

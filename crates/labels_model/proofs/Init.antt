@@ -22,7 +22,7 @@ use Rattle.labels_model.specs.Model.{add_candidate, add_frontier_dart, is_remova
 use Rattle.labels_model.specs.NeighbourCounts.{tip_is, met, joins, met-add, joins-none, joins-both, joins-one}
 use Rattle.labels_model.specs.Counters.{Beside, beside_then, Meshed, meshed_kept, set_degree-same, set_degree-other, with_sets_beside}
 use Rattle.labels_model.specs.Counters.{add_candidate_beside}
-use Rattle.labels_model.specs.Candidates.{can_true}
+use Rattle.labels_model.proofs.Candidates.{can_true}
 use Rattle.labels_model.specs.FrontierInsert.{Marked}
 use Rattle.labels_model.specs.LabelFan.{marked_same}
 use Rattle.labels_model.specs.FrontierInvariant.{on, Stood, stood_same}
