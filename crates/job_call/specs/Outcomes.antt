@@ -12,7 +12,7 @@ use Rattle.definitions.specs.Answers.{Answer, done, refused, numbered, stopped_a
 use Rattle.definitions.specs.Refusals.{Repaired, repair_call, row9}
 use Rattle.definitions.specs.Job.{Job, read_job, repair_job, run_job, host_call, listing, told_with_text, refusal_number}
 use Rattle.laws.specs.Sums.{total_abs_lem}
-use Rattle.theory_repair.specs.Demand as RepairDemand
+use Rattle.theory_repair.proofs.CallDemand as RepairDemand
 use Rattle.theory_demand.specs.Demand.{maps}
 use Rattle.text_model.specs.Sizes.{job_fits}
 use Rattle.text_model.specs.Writing.{listing_fits}

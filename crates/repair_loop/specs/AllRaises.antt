@@ -17,7 +17,8 @@ use Rattle.theory_realizer.specs.Units.{Units}
 use Rattle.theory_crossings.specs.UnitMaps.{units}
 use Rattle.theory_repair.specs.Coordinates.{length-forward}
 use Rattle.theory_repair.specs.Bounds.{outer-total, row10-forward}
-use Rattle.theory_repair.specs.Repairs.{light_9, repair-outcome}
+use Rattle.theory_repair.specs.Repairs.{light_9}
+use Rattle.theory_repair.proofs.Repairs.{repair-outcome}
 use Rattle.scratch_tables.specs.Tables.{tables_of, dart_in}
 use Rattle.labels_tables.specs.Peeling.{peeling}
 use Rattle.int64.specs.Whole.{abs_minus}

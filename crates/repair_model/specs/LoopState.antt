@@ -18,7 +18,8 @@ use Rattle.theory_crossings.specs.UnitMaps.{units}
 use Rattle.theory_repair.specs.Coordinates.{inner-range}
 use Rattle.theory_repair.specs.Areas.{Extended, good}
 use Rattle.theory_repair.specs.Raises.{length-add_to, raise_keeps, raise_extends, bad-raise}
-use Rattle.theory_repair.specs.Repairs.{light_9, repair-outcome}
+use Rattle.theory_repair.specs.Repairs.{light_9}
+use Rattle.theory_repair.proofs.Repairs.{repair-outcome}
 use Rattle.theory_repair.specs.AllWalks.{walk_triangles}
 use Rattle.theory_repair.specs.RegionBorders.{off_walks}
 use Rattle.scratch_tables.specs.Tables.{tables_of}

@@ -26,6 +26,8 @@ use Rattle.theory_repair.specs.Coordinates.{inner-range}
 use Rattle.theory_repair.specs.Additive.{plus}
 use Rattle.theory_repair.specs.Demand as RepairTheory
 use Rattle.theory_repair.specs.Demand.{Counts}
+use Rattle.theory_repair.proofs.Demand as RepairProofs
+use Rattle.theory_repair.proofs.CallDemand as CallProofs
 use Rattle.theory_inverse.specs.RoundTrips.{forward-backward, backward-forward}
 
 module _ (n outer_place : ℕ) (ts : List ℕ) where
@@ -104,12 +106,12 @@ demand n outer_place ts accepted there =
       sums_add = λ ws us w u s. RepairTheory.added n mesh ls acc U ws us w.0 u.0;
       sums_total = λ ws w i h. RepairTheory.summed n mesh ls acc U ws i h;
       upright = λ ws w ones t m. RepairTheory.upright n mesh ls acc U ws w.0 ones t m;
-      raises_once = RepairTheory.raises_once n mesh ls acc U;
-      raises_few = RepairTheory.raises_few n mesh ls acc U;
-      raises_inner = RepairTheory.raises_inner n mesh ls acc U;
-      ends = RepairTheory.terminates n mesh ls acc U;
-      count_raises = λ ws bs scratch. RepairTheory.count_raises n outer_place ts (λ _. U) ws bs scratch;
-      count_changed = λ ws bs scratch. RepairTheory.count_changed n outer_place ts (λ _. U) ws bs scratch;
-      repaired_upright = λ ws bs scratch. RepairTheory.done_upright n outer_place ts (λ _. U) ws bs scratch;
-      repaired_total = λ ws bs scratch. RepairTheory.done-total n outer_place ts (λ _. U) ws bs scratch;
+      raises_once = RepairProofs.raises_once n mesh ls acc U;
+      raises_few = RepairProofs.raises_few n mesh ls acc U;
+      raises_inner = RepairProofs.raises_inner n mesh ls acc U;
+      ends = RepairProofs.terminates n mesh ls acc U;
+      count_raises = λ ws bs scratch. CallProofs.count_raises n outer_place ts (λ _. U) ws bs scratch;
+      count_changed = λ ws bs scratch. CallProofs.count_changed n outer_place ts (λ _. U) ws bs scratch;
+      repaired_upright = λ ws bs scratch. CallProofs.done_upright n outer_place ts (λ _. U) ws bs scratch;
+      repaired_total = λ ws bs scratch. CallProofs.done-total n outer_place ts (λ _. U) ws bs scratch;
     }
