@@ -34,7 +34,7 @@ def told(sides, named=str):
 class Cases(unittest.TestCase):
     def test_definition(self):
         letter = {"true": "T", "false": "F"}
-        found = re.findall(r"^eightCases b N p q r (\w+) (\w+) (\w+) = (.*)$", DEFINITION, re.MULTILINE)
+        found = re.findall(r"^eight_cases b N p q r (\w+) (\w+) (\w+) = (.*)$", DEFINITION, re.MULTILINE)
         written = {"".join(map(letter.get, ways)): formula for *ways, formula in found}
         plain = lambda formula: re.sub(r"b ([012]) ([pqr])", r"b\1(\2)", formula.replace("-ℤ", "-"))
         self.assertEqual({case: plain(formula) for case, formula in written.items()}, CASES)
