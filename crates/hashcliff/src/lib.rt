@@ -1,5 +1,5 @@
 // The public calls as a library for C: a slice is a pointer and a length, and a call answers the number of its refusal, or 0. `host/packmap.h` declares them;
-// `packmap_job` of crate `job_call` completes the library.
+// `packmap_job` of crate `job_call_c` completes the library.
 #![tactic(auto)]
 
 ghost use Rattle.std.specs.Prelude.{◌≡◌};

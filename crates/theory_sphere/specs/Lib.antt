@@ -1,4 +1,4 @@
--- The facts of an accepted mesh, and that they are what acceptance tests.
+-- The facts of an accepted mesh, and that they are what acceptance tests. What requests left as it was before them is in proofs/ too.
 pub mod Sphere
 pub mod Darts
 pub mod Fronted

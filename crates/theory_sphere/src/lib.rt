@@ -1,2 +1,2 @@
-// No code here: specs/ holds the theory.
+// No code here: specs/ and proofs/ hold the theory.
 #![tactic(auto)]
