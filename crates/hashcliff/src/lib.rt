@@ -1,5 +1,5 @@
-// The public calls as a library for C: a slice is a pointer and a length, and a call answers the number of its refusal, or 0. `host/packmap.h` declares them;
-// `packmap_job` of crate `job_call_c` completes the library.
+// The public calls as C has them: a call answers the number of its refusal, or 0, and leaves what an answer carries behind a reference. Crate `hashcliff_c`
+// exports them.
 #![tactic(auto)]
 
 ghost use Rattle.std.specs.Prelude.{◌≡◌};
@@ -32,8 +32,7 @@ fn tell(why: Refusal, carried: &mut u64) -> u64
     }
 }
 
-#[unsafe(no_mangle)]
-pub extern "C" fn packmap_mesh_check(
+pub fn packmap_mesh_check(
     n: usize,
     outer: usize,
     triangles: &[u16],
@@ -51,8 +50,7 @@ pub extern "C" fn packmap_mesh_check(
     }
 }
 
-#[unsafe(no_mangle)]
-pub extern "C" fn packmap_labels(
+pub fn packmap_labels(
     n: usize,
     outer: usize,
     triangles: &[u16],
@@ -72,8 +70,7 @@ pub extern "C" fn packmap_labels(
     }
 }
 
-#[unsafe(no_mangle)]
-pub extern "C" fn packmap_forward(
+pub fn packmap_forward(
     n: usize,
     outer: usize,
     triangles: &[u16],
@@ -97,8 +94,7 @@ pub extern "C" fn packmap_forward(
     }
 }
 
-#[unsafe(no_mangle)]
-pub extern "C" fn packmap_forward_range(
+pub fn packmap_forward_range(
     n: usize,
     outer: usize,
     triangles: &[u16],
@@ -126,8 +122,7 @@ pub extern "C" fn packmap_forward_range(
     }
 }
 
-#[unsafe(no_mangle)]
-pub extern "C" fn packmap_backward(
+pub fn packmap_backward(
     n: usize,
     outer: usize,
     triangles: &[u16],
@@ -152,8 +147,7 @@ pub extern "C" fn packmap_backward(
 }
 
 // With 0 and 13 the count of raises is left behind `carried`.
-#[unsafe(no_mangle)]
-pub extern "C" fn packmap_repair(
+pub fn packmap_repair(
     n: usize,
     outer: usize,
     triangles: &[u16],
@@ -187,8 +181,7 @@ pub extern "C" fn packmap_repair(
 }
 
 // With 16 the share is left behind `outside`, which else keeps what it held.
-#[unsafe(no_mangle)]
-pub extern "C" fn packmap_snap_points(
+pub fn packmap_snap_points(
     n: usize,
     shares: &[f64],
     scale: u32,
