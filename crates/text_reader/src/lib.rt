@@ -1,5 +1,5 @@
 // A reader holds the job text and a position in it. It lends out the text from its next line on, and moves by a line. The work is in
-// covered functions of `text_parse`, which take the text and the position; the functions over the struct are thin, and proved by hand.
+// functions of `text_parse`, which take the text and the position; the functions over the struct are thin.
 #![tactic(auto)]
 
 ghost use Rattle.std.specs.Prelude.{◌≡◌, drop};
