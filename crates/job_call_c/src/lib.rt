@@ -1,4 +1,4 @@
-// The call on a job text as a library for C, beside those of crate `hashcliff`: a slice is a pointer and a length. `host/packmap.h` declares it.
+// The call on a job text as a library for C, beside those of crate `hashcliff_c`: a slice is a pointer and a length. `host/packmap.h` declares it.
 #![tactic(auto)]
 
 ghost use Rattle.std.specs.Prelude.{◌≡◌};
