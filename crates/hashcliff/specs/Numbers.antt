@@ -1,6 +1,5 @@
--- An answer told without an enum: by the number of its refusal, 0 where there is none, and by what it carries beside that. Assumes nothing.
-use Rattle.std.specs.Prelude.{ℕ, ◌≡◌, Float}
-use Rattle.std.proofs.Common.{sym, ap, ◌∙◌}
+-- An answer told without an enum: by the number of its refusal, 0 where there is none, and by what it carries beside that. Definitions only.
+use Rattle.std.specs.Prelude.{ℕ, Float}
 use Rattle.definitions.specs.Answers.{Answer, done, refused, Refusal, number, numbered, vertex_pinched, vertex_stray, stopped_after, share_outside, line_broken}
 
 abbrev pub number_of : {A : Type 0} → Answer A → ℕ
@@ -34,12 +33,3 @@ share_of lent (refused (vertex_stray v)) = lent
 share_of lent (refused (stopped_after count)) = lent
 share_of lent (refused (share_outside share)) = share
 share_of lent (refused (line_broken line)) = lent
-
--- What g says of a call's answer w is n, where the code has the call's result r, which f makes that answer, in the case s. The second law is for a g that
--- takes what was lent.
-module _ {R W N : Type 0} (f : R → W) where
-  pub told : (g : W → N) (r s : R) (w : W) (n : N) → f r ≡ w → r ≡ s → n ≡ g (f s) → n ≡ g w
-  told g r s w n e h i = i ∙ ap (λ (t : R). g (f t)) (sym h) ∙ ap g e
-
-  pub told_lent : (g : N → W → N) (lent : N) (r s : R) (w : W) (n : N) → f r ≡ w → r ≡ s → n ≡ g lent (f s) → n ≡ g lent w
-  told_lent g lent = told (g lent)

@@ -4,32 +4,29 @@
 
 ghost use Rattle.std.specs.Prelude.{◌≡◌};
 ghost use Rattle.definitions.specs.Refusals.{check_call, labels_call, forward_call, range_call, backward_call, repair_call, snap_call};
-ghost use Rattle.definitions.specs.Answers.{number};
-ghost use Rattle.mesh_answer.specs.Answer.{to_refusal};
-ghost use Rattle.hashcliff.specs.Numbers.{number_of, carried_by, carried_of, carried_of_repair, share_of};
+ghost use Rattle.mesh_answer.specs.Answer.{to_answer};
+ghost use Rattle.hashcliff.specs.Numbers.{number_of, carried_of, carried_of_repair, share_of};
 
-use labels_call::LabelsAnswer;
-use maps_call::MapAnswer;
-use mesh_answer::{MeshAnswer, Refusal};
-use repair_call::RepairAnswer;
-use snap_call::SnapAnswer;
+use mesh_answer::Refusal;
+use mesh_check::Mesh;
+use snap_call::SnapRefusal;
 
-// The number of a refusal. The vertex of 7 and 25 is left behind `carried`, which else keeps what it held.
-fn tell(why: Refusal, carried: &mut u64) -> u64
-    ensures number { result ≡ number (to_refusal why) }
-    ensures carried { carried.new ≡ carried_by carried.old (to_refusal why) }
+// 0, or the number of a refusal. What the refusal carries is left behind `carried`, which else keeps what it held: the vertex of 7 and 25, and with 13 the
+// count of raises.
+fn tell(answer: Result<(), Refusal>, carried: &mut u64) -> u64
+    ensures number { result ≡ number_of (to_answer answer) }
+    ensures carried { carried.new ≡ carried_of carried.old (to_answer answer) }
 {
-    match why {
-        Refusal::Numbered(number) => number as u64,
-        Refusal::VertexPinched(vertex) => {
-            *carried = vertex as u64;
-            7
-        }
-        Refusal::VertexStray(vertex) => {
-            *carried = vertex as u64;
-            25
-        }
+    let Err(why) = answer else {
+        return 0;
+    };
+    if let Refusal::PinchedVertex(number)
+    | Refusal::StrayVertex(number)
+    | Refusal::Stopped(number) = why
+    {
+        *carried = number as u64;
     }
+    u64::from(why.number())
 }
 
 pub fn packmap_mesh_check(
@@ -44,10 +41,12 @@ pub fn packmap_mesh_check(
         carried_of carried.old (check_call n outer triangles.now scratch.old).answer }
     ensures scratch { scratch.new ≡ (check_call n outer triangles.now scratch.old).scratch }
 {
-    match mesh_check::check(n, outer, triangles, scratch) {
-        MeshAnswer::Accepted => 0,
-        MeshAnswer::Refused(why) => tell(why, carried),
-    }
+    let mesh = Mesh {
+        n,
+        outer,
+        triangles,
+    };
+    tell(mesh_check::check(&mesh, scratch), carried)
 }
 
 pub fn packmap_labels(
@@ -64,10 +63,12 @@ pub fn packmap_labels(
     ensures labels { labels.new ≡ (labels_call n outer triangles.now labels.old scratch.old).labels }
     ensures scratch { scratch.new ≡ (labels_call n outer triangles.now labels.old scratch.old).scratch }
 {
-    match labels_call::labels(n, outer, triangles, labels, scratch) {
-        LabelsAnswer::Written => 0,
-        LabelsAnswer::Refused(why) => tell(why, carried),
-    }
+    let mesh = Mesh {
+        n,
+        outer,
+        triangles,
+    };
+    tell(labels_call::labels(&mesh, labels, scratch), carried)
 }
 
 pub fn packmap_forward(
@@ -88,10 +89,15 @@ pub fn packmap_forward(
     ensures scratch { scratch.new ≡
         (forward_call n outer triangles.now weights.now coordinates.old scratch.old).scratch }
 {
-    match maps_call::forward(n, outer, triangles, weights, coordinates, scratch) {
-        MapAnswer::Written => 0,
-        MapAnswer::Refused(why) => tell(why, carried),
-    }
+    let mesh = Mesh {
+        n,
+        outer,
+        triangles,
+    };
+    tell(
+        maps_call::forward(&mesh, weights, coordinates, scratch),
+        carried,
+    )
 }
 
 pub fn packmap_forward_range(
@@ -116,10 +122,15 @@ pub fn packmap_forward_range(
     ensures scratch { scratch.new ≡ (range_call n outer triangles.now lows.now highs.now
         lowest.old highest.old scratch.old).scratch }
 {
-    match range_call::forward_range(n, outer, triangles, lows, highs, lowest, highest, scratch) {
-        MapAnswer::Written => 0,
-        MapAnswer::Refused(why) => tell(why, carried),
-    }
+    let mesh = Mesh {
+        n,
+        outer,
+        triangles,
+    };
+    tell(
+        range_call::forward_range(&mesh, lows, highs, lowest, highest, scratch),
+        carried,
+    )
 }
 
 pub fn packmap_backward(
@@ -140,10 +151,15 @@ pub fn packmap_backward(
     ensures scratch { scratch.new ≡
         (backward_call n outer triangles.now coordinates.now weights.old scratch.old).scratch }
 {
-    match maps_call::backward(n, outer, triangles, coordinates, weights, scratch) {
-        MapAnswer::Written => 0,
-        MapAnswer::Refused(why) => tell(why, carried),
-    }
+    let mesh = Mesh {
+        n,
+        outer,
+        triangles,
+    };
+    tell(
+        maps_call::backward(&mesh, coordinates, weights, scratch),
+        carried,
+    )
 }
 
 // With 0 and 13 the count of raises is left behind `carried`.
@@ -167,16 +183,17 @@ pub fn packmap_repair(
     ensures scratch { scratch.new ≡
         (repair_call n outer triangles.now weights.old coordinates.old scratch.old).scratch }
 {
-    match repair_call::repair(n, outer, triangles, weights, coordinates, scratch) {
-        RepairAnswer::Repaired(raises) => {
+    let mesh = Mesh {
+        n,
+        outer,
+        triangles,
+    };
+    match repair_call::repair(&mesh, weights, coordinates, scratch) {
+        Ok(raises) => {
             *carried = raises as u64;
             0
         }
-        RepairAnswer::Refused(why) => tell(why, carried),
-        RepairAnswer::Stopped(raises) => {
-            *carried = raises as u64;
-            13
-        }
+        Err(why) => tell(Err(why), carried),
     }
 }
 
@@ -193,12 +210,11 @@ pub fn packmap_snap_points(
     ensures outside { outside.new ≡
         share_of outside.old (snap_call n shares.now scale coordinates.old).answer }
 {
-    match snap_call::snap_points(n, shares, scale, coordinates) {
-        SnapAnswer::Done => 0,
-        SnapAnswer::Refused(number) => number as u64,
-        SnapAnswer::Outside(share) => {
-            *outside = share;
-            16
-        }
+    let Err(why) = snap_call::snap_points(n, shares, scale, coordinates) else {
+        return 0;
+    };
+    if let SnapRefusal::Outside(share) = why {
+        *outside = share;
     }
+    u64::from(why.number())
 }

@@ -1,2 +1,2 @@
--- What the operations on whole numbers in 64 bits rest on.
+-- Laws of whole numbers in 64 bits.
 pub mod Whole

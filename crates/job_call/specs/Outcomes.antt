@@ -1,5 +1,6 @@
 -- What each way to the end of a job says of its answer and its buffer; and that a buffer of 16,384 bytes is never too short. Assumes nothing.
-use Rattle.std.specs.Prelude.{ℕ, zero, suc, ◌+◌, ◌*◌, ◌-◌, ◌≤◌, ◌<◌, ◌≡◌, Bool, true, false, List, ◌∷◌, ltb, length, take, replicate, ℤ, pos, nat_abs}
+use Rattle.std.specs.Prelude.{ℕ, zero, suc, ◌+◌, ◌*◌, ◌-◌, ◌≤◌, ◌<◌, ◌≡◌, Bool, true, false, List}
+use Rattle.std.specs.Prelude.{◌∷◌, ltb, length, take, replicate, ℤ, pos, nat_abs, Option, None, Some, Result, Ok, Err}
 use Rattle.std.proofs.Math.Path.{refl, sym, ap}
 use Rattle.std.proofs.Common.{ap₂, ◌∙◌, inl, arith, length-take-le, ltb-false}
 use Rattle.std.proofs.lemmas.List.{length-replicate}
@@ -8,33 +9,30 @@ use Rattle.definitions.specs.Mesh.{coordinates_length, scratch_length, org, fron
 use Rattle.theory_sphere.specs.Fronted.{fronted-0}
 use Rattle.definitions.specs.Labels.{outer}
 use Rattle.definitions.specs.Backward.{coordinate}
-use Rattle.definitions.specs.Answers.{Answer, done, refused, numbered, stopped_after as stopped, line_broken, Refusal, number}
+use Rattle.definitions.specs.Answers.{Answer, done, refused, numbered, line_broken, Refusal, number}
 use Rattle.definitions.specs.Refusals.{Repaired, repair_call, row9}
-use Rattle.definitions.specs.Job.{Job, read_job, repair_job, run_job, host_call, listing, told_with_text, refusal_number}
+use Rattle.definitions.specs.Job.{Job, read_job, repair_job, run_job, host_call, listing, told_with_text, line_of, refusal_number}
 use Rattle.laws.specs.Sums.{total_abs_lem}
 use Rattle.theory_repair.proofs.CallDemand as RepairDemand
 use Rattle.theory_demand.specs.Demand.{maps}
 use Rattle.text_model.specs.Sizes.{job_fits}
 use Rattle.text_model.specs.Writing.{listing_fits}
 use Rattle.text_write_listing.specs.Answer.{Listing}
-use Rattle.text_write_listing.specs.declared.Listed.{Listed}
-use Rattle.text_write_listing.specs.declared.Listed.TheVariants.{Bytes, Short}
-use Rattle.text_read_job.specs.declared.Reading.{Reading}
-use Rattle.text_read_job.specs.declared.Reading.TheVariants.{Job as Read, TooLong, Size, Line}
+use Rattle.text_read_job.specs.declared.ReadError.{ReadError}
+use Rattle.text_read_job.specs.declared.ReadError.TheVariants.{TooLong, Size, Line}
 use Rattle.text_read_job.specs.Answer.{answer_of, Sized}
-use Rattle.mesh_answer.specs.Answer.{to_refusal}
+use Rattle.mesh_answer.specs.Answer.{to_refusal, to_answer}
 use Rattle.mesh_answer.specs.declared.Refusal.{Refusal as MeshRefusal}
-use Rattle.mesh_answer.specs.declared.Refusal.TheVariants.{Numbered, VertexPinched, VertexStray}
-use Rattle.repair_call.specs.declared.RepairAnswer.{RepairAnswer}
-use Rattle.repair_call.specs.declared.RepairAnswer.TheVariants.{Repaired as Repairs, Refused as Refuses, Stopped}
-use Rattle.repair_call.specs.Answer.{repair_to_answer}
+use Rattle.mesh_answer.specs.declared.Refusal.TheVariants.{VertexCount, SliceLength, VertexNumber, RepeatedVertex, RepeatedSide, UnpairedSide, PinchedVertex}
+use Rattle.mesh_answer.specs.declared.Refusal.TheVariants.{Disconnected, WeightLimit, CoordinateLimit, OffCorner, OffSum, Stopped, OuterTriangle}
+use Rattle.mesh_answer.specs.declared.Refusal.TheVariants.{StrayVertex, LowAboveHigh}
 use Rattle.job_call.specs.Model.{ran, Fitting, outcome, host_number}
-use Rattle.job_call.specs.declared.JobAnswer.{JobAnswer}
-use Rattle.job_call.specs.declared.JobAnswer.TheVariants.{Listed as listed, Refused, Broken}
-use Rattle.job_call.specs.Answer.{job_to_answer, Near, Ends}
+use Rattle.job_call.specs.declared.JobRefusal.{JobRefusal}
+use Rattle.job_call.specs.declared.JobRefusal.TheVariants.{Text, Repair, ListingLength}
+use Rattle.job_call.specs.Answer.{job_to_refusal, job_to_answer, of_read, NearLine, Near, Ends}
 
 -- an end, clause by clause
-pub ended : {a : Answer (List ℕ)} {before after : List ℕ} {r : JobAnswer} → Ends a before after r →
+pub ended : {a : Answer (List ℕ)} {before after : List ℕ} {r : Result ℕ JobRefusal} → Ends a before after r →
     (job_to_answer r ≡ (outcome a before).answer) × ((after ≡ (outcome a before).buffer) × Near r)
 ended e = (e.answer, (e.buffer, e.line))
 
@@ -50,28 +48,22 @@ module _ (text : List ℕ) where
   run-job job e = rw (e, run_job) refl
 
   -- as the code hands it over: the reader's answer r, and the slices it filled
-  module _ (r : Reading) (vs : List ℕ) (xs : List ℤ) (read : answer_of r vs xs ≡ read_job text) where
-    pub run_long : r ≡ TooLong → (before : List ℕ) → Ends (run_job text) before before (Refused 19)
+  module _ (r : Result ℕ ReadError) (vs : List ℕ) (xs : List ℤ) (read : answer_of r vs xs ≡ read_job text) where
+    pub run-read : (why : ReadError) → r ≡ Err why → (before : List ℕ) → Ends (run_job text) before before (Err (Text why))
     unfolding told_with_text
-    run_long e before = rw (run-refused (numbered 19) (sym read ∙ ap (λ x. answer_of x vs xs) e)) (record { answer = refl; buffer = refl; line = tt })
-
-    pub run-size : r ≡ Size → (before : List ℕ) → Ends (run_job text) before before (Refused 1)
-    unfolding told_with_text
-    run-size e before = rw (run-refused (numbered 1) (sym read ∙ ap (λ x. answer_of x vs xs) e)) (record { answer = refl; buffer = refl; line = tt })
-
-    pub run_line : (l : ℕ) → r ≡ Line l → (before : List ℕ) → Ends (run_job text) before before (Broken l)
-    unfolding told_with_text
-    run_line l e before =
+    run-read TooLong e before = rw (run-refused (numbered 19) (sym read ∙ ap (λ x. answer_of x vs xs) e)) (record { answer = refl; buffer = refl; line = tt })
+    run-read Size e before = rw (run-refused (numbered 1) (sym read ∙ ap (λ x. answer_of x vs xs) e)) (record { answer = refl; buffer = refl; line = tt })
+    run-read (Line l) e before =
         let q = sym read ∙ ap (λ x. answer_of x vs xs) e in
         rw (run-refused (line_broken l) q) (record { answer = refl; buffer = refl; line = rw q at (job_fits text) })
 
-    pub run-finish : (n : ℕ) → r ≡ Read n → (before after : List ℕ) (a : JobAnswer)
+    pub run-finish : (n : ℕ) → r ≡ Ok n → (before after : List ℕ) (a : Result ℕ JobRefusal)
         → Ends (ran n (take (3 * (2 * n - 4)) vs) (take (2 * n - 5) xs)) before after a → Ends (run_job text) before after a
     run-finish n e before after a h =
         rw (run-job (record { n = n; triangles = take (3 * (2 * n - 4)) vs; weights = take (2 * n - 5) xs }) (sym read ∙ ap (λ x. answer_of x vs xs) e)) h
 
 -- a job's size, and the parts that are lent of the slices it was read into
-module _ (r : Reading) (n : ℕ) (e : r ≡ Read n) (s : Sized r) where
+module _ (r : Result ℕ ReadError) (n : ℕ) (e : r ≡ Ok n) (s : Sized r) where
   pub job_sized : (3 ≤ n) × (n ≤ 256)
   job_sized = rw e at s
 
@@ -114,56 +106,59 @@ pub host_buffer : (text before after : List ℕ) → after ≡ (outcome (run_job
 host_buffer text before after e = e ∙ (host text before).1
 
 -- a line that is named leaves the number room in 64 bits
-pub near_line : (r : JobAnswer) → Near r → (l : ℕ) → r ≡ Broken l → l ≤ 1017
-near_line r h l e = rw e at h
+pub near_line : (why : JobRefusal) → NearLine why → line_of (job_to_refusal why) ≤ 1017
+unfolding line_of
+near_line (Text TooLong) h = omega arith
+near_line (Text Size) h = omega arith
+near_line (Text (Line l)) h = h
+near_line (Repair why) h = omega arith
+near_line ListingLength h = omega arith
 
 -- the host's number of an answer
-module _ (text buffer : List ℕ) (r : JobAnswer) (told-it : job_to_answer r ≡ (outcome (run_job text) buffer).answer) where
+module _ (text buffer : List ℕ) (r : Result ℕ JobRefusal) (told-it : job_to_answer r ≡ (outcome (run_job text) buffer).answer) where
   number_is : (a : Answer ℕ) → job_to_answer r ≡ a → host_number a ≡ (host_call text buffer).number
   number_is a e = ap host_number (sym e ∙ told-it) ∙ (host text buffer).0
 
-  pub host_listed : (k : ℕ) → r ≡ listed k → k ≡ (host_call text buffer).number
+  pub host_listed : (k : ℕ) → r ≡ Ok k → k ≡ (host_call text buffer).number
   host_listed k e = number_is (done k) (ap job_to_answer e)
 
-  pub host_refused : (k : ℕ) → r ≡ Refused k → 65536 + k ≡ (host_call text buffer).number
+  -- from the line l and the number k of the refusal, as the code has them
+  pub host_refused : (why : JobRefusal) → r ≡ Err why → (l k : ℕ) → l ≡ line_of (job_to_refusal why) → k ≡ number (job_to_refusal why) →
+      65536 * (1 + l) + k ≡ (host_call text buffer).number
   unfolding refusal_number
-  host_refused k e = number_is (refused (numbered k)) (ap job_to_answer e)
-
-  pub host_broken : (l : ℕ) → r ≡ Broken l → 65536 * (1 + l) + 17 ≡ (host_call text buffer).number
-  unfolding refusal_number
-  host_broken l e = number_is (refused (line_broken l)) (ap job_to_answer e)
+  host_refused why e l k f g = rw (f, g) (number_is (refused (job_to_refusal why)) (ap job_to_answer e))
 
 -- ---- a listing, written or too long for the buffer
 
 module _ (bytes before after : List ℕ) where
-  ends_written : (k : ℕ) → Listing bytes before after (Bytes k) → Ends (done bytes) before after (listed k)
+  ends_written : (k : ℕ) → Listing bytes before after (Some k) → Ends (done bytes) before after (Ok k)
   ends_written k h = go (ltb (length before) (length bytes)) refl
     where
-      go : (b : Bool) → ltb (length before) (length bytes) ≡ b → Ends (done bytes) before after (listed k)
+      go : (b : Bool) → ltb (length before) (length bytes) ≡ b → Ends (done bytes) before after (Ok k)
       go true e = let z : ◌≡◌ {A = ℕ} 0 1 = cc (rw e at h.answer) in absurd (omega arith)
       go false e =
-          let q : ◌≡◌ {A = Listed} (Bytes k) (Bytes (length bytes)) = rw e at h.answer in
+          let q : ◌≡◌ {A = Option ℕ} (Some k) (Some (length bytes)) = rw e at h.answer in
           let p : k ≡ length bytes = cc in
           record { answer = rw e (ap {A = ℕ} {B = Answer ℕ} done p); buffer = rw e (rw e at h.buffer); line = tt }
 
-  ends_short : Listing bytes before after Short → Ends (done bytes) before after (Refused 18)
+  ends_short : Listing bytes before after None → Ends (done bytes) before after (Err ListingLength)
   ends_short h = go (ltb (length before) (length bytes)) refl
     where
-      go : (b : Bool) → ltb (length before) (length bytes) ≡ b → Ends (done bytes) before after (Refused 18)
+      go : (b : Bool) → ltb (length before) (length bytes) ≡ b → Ends (done bytes) before after (Err ListingLength)
       go true e = record { answer = rw e refl; buffer = rw e (rw e at h.buffer); line = tt }
       go false e = let z : ◌≡◌ {A = ℕ} 0 1 = cc (rw e at h.answer) in absurd (omega arith)
 
 -- as the code hands it over: the writer's answer r, and N by another name
 module _ (n raises : ℕ) (ts : List ℕ) (bs : List ℤ) (N : ℤ) (v : ℕ) (vertex : v ≡ org ts 0) (total : N ≡ coordinate bs 0 v)
     (before after : List ℕ)
-    (r : Listed) (h : Listing (listing n N raises bs) before after r) where
+    (r : Option ℕ) (h : Listing (listing n N raises bs) before after r) where
   same : listing n N raises bs ≡ listing n (coordinate bs 0 (org ts 0)) raises bs
   same = ap {A = ℤ} {B = List ℕ} (λ x. listing n x raises bs) (total ∙ ap (λ w. coordinate bs 0 w) vertex)
 
-  pub listed-ends : (k : ℕ) → r ≡ Bytes k → Ends (done (listing n (coordinate bs 0 (org ts 0)) raises bs)) before after (listed k)
+  pub listed-ends : (k : ℕ) → r ≡ Some k → Ends (done (listing n (coordinate bs 0 (org ts 0)) raises bs)) before after (Ok k)
   listed-ends k e = rw same at (ends_written (listing n N raises bs) before after k (rw e at h))
 
-  pub short_ends : r ≡ Short → Ends (done (listing n (coordinate bs 0 (org ts 0)) raises bs)) before after (Refused 18)
+  pub short_ends : r ≡ None → Ends (done (listing n (coordinate bs 0 (org ts 0)) raises bs)) before after (Err ListingLength)
   short_ends e = rw same at (ends_short (listing n N raises bs) before after (rw e at h))
 
 -- ---- a job that is read: its repair, over buffers of its own
@@ -171,9 +166,22 @@ module _ (n raises : ℕ) (ts : List ℕ) (bs : List ℤ) (N : ℤ) (v : ℕ) (v
 -- a text tells the number of a refusal, and no vertex
 told_alone : (why : MeshRefusal) → told_with_text (to_refusal why) ≡ numbered (number (to_refusal why))
 unfolding told_with_text
-told_alone (Numbered k) = refl
-told_alone (VertexPinched v) = refl
-told_alone (VertexStray v) = refl
+told_alone VertexCount = refl
+told_alone SliceLength = refl
+told_alone VertexNumber = refl
+told_alone RepeatedVertex = refl
+told_alone RepeatedSide = refl
+told_alone UnpairedSide = refl
+told_alone (PinchedVertex k) = refl
+told_alone Disconnected = refl
+told_alone WeightLimit = refl
+told_alone CoordinateLimit = refl
+told_alone OffCorner = refl
+told_alone OffSum = refl
+told_alone (Stopped k) = refl
+told_alone OuterTriangle = refl
+told_alone (StrayVertex k) = refl
+told_alone LowAboveHigh = refl
 
 take-replicate : {A : Type 0} (k m : ℕ) (a : A) → k ≤ m → take k (replicate m a) ≡ replicate k a
 take-replicate zero m a h = refl
@@ -191,7 +199,8 @@ module _ (n : ℕ) (ts : List ℕ) (ws : List ℤ) where
   module _ (raises : ℕ) (e : end.answer ≡ done raises) where
     done_few : raises ≤ 2 * n - 5
     done_few =
-        RepairDemand.count_few n 0 ts (maps n (fronted 0 ts)) ws (replicate (coordinates_length n) (pos 0)) (replicate (scratch_length n) (pos 0)) raises (inl e)
+        RepairDemand.count_few n 0 ts (maps n (fronted 0 ts)) ws (replicate (coordinates_length n) (pos 0)) (replicate (scratch_length n) (pos 0))
+        raises (inl e)
 
     -- N is b0 of v0
     done-total : coordinate end.coordinates 0 (org ts 0) ≡ total end.weights
@@ -215,37 +224,31 @@ module _ (n : ℕ) (ts : List ℕ) (ws : List ℤ) where
       (take (scratch_length n) (replicate (scratch_length 256) (pos 0)))
 
   -- r is what the code answers
-  module _ (F : Fitting n ts ws) (r : RepairAnswer) (told-it : repair_to_answer r ≡ on_fronts.answer) where
+  module _ (F : Fitting n ts ws) (r : Result ℕ MeshRefusal) (told-it : to_answer r ≡ on_fronts.answer) where
     zeros : on_fronts ≡ end
     zeros =
         ap₂ (repair_call n 0 ts ws) (take-replicate (coordinates_length n) (coordinates_length 256) (pos 0) (omega (arith, F.most)))
         (take-replicate (scratch_length n) (scratch_length 256) (pos 0) (omega (arith, F.most)))
 
-    answer_is : (a : Answer ℕ) → repair_to_answer r ≡ a → end.answer ≡ a
+    answer_is : (a : Answer ℕ) → to_answer r ≡ a → end.answer ≡ a
     answer_is a e = ap (λ (x : Repaired). x.answer) (sym zeros) ∙ sym told-it ∙ e
 
-    pub few_raises : (raises : ℕ) → r ≡ Repairs raises → raises < 65536
-    few_raises raises e = omega (arith, F.most, done_few raises (answer_is (done raises) (ap repair_to_answer e)))
+    pub few_raises : (raises : ℕ) → r ≡ Ok raises → raises < 65536
+    few_raises raises e = omega (arith, F.most, done_few raises (answer_is (done raises) (ap to_answer e)))
 
-    pub finish-listed : (raises : ℕ) → r ≡ Repairs raises → (bs : List ℤ)
+    pub finish-listed : (raises : ℕ) → r ≡ Ok raises → (bs : List ℤ)
         → bs ≡ on_fronts.coordinates
-        → (before after : List ℕ) (a : JobAnswer) → Ends (done (listing n (coordinate bs 0 (org ts 0)) raises bs)) before after a →
+        → (before after : List ℕ) (a : Result ℕ JobRefusal) → Ends (done (listing n (coordinate bs 0 (org ts 0)) raises bs)) before after a →
         Ends (ran n ts ws) before after a
     finish-listed raises e bs is before after a h =
         let q : bs ≡ end.coordinates = is ∙ ap (λ (x : Repaired). x.coordinates) zeros in
-        let p = ran-done raises (answer_is (done raises) (ap repair_to_answer e)) in
+        let p = ran-done raises (answer_is (done raises) (ap to_answer e)) in
         rw (p, ← q) h
 
-    pub finish-refused : (why : MeshRefusal) → r ≡ Refuses why → (k : ℕ) → k ≡ number (to_refusal why) →
-        (before : List ℕ) → Ends (ran n ts ws) before before (Refused k)
-    finish-refused why e k q before =
-        let is = ran-refused (to_refusal why) (answer_is (refused (to_refusal why)) (ap repair_to_answer e)) in
-        rw (is ∙ ap refused (told_alone why), q) (record { answer = refl; buffer = refl; line = tt })
-
-    pub finish_stopped : (count : ℕ) → r ≡ Stopped count → (before : List ℕ) → Ends (ran n ts ws) before before (Refused 13)
-    unfolding told_with_text
-    finish_stopped count e before = rw (ran-refused (stopped count) (answer_is (refused (stopped count)) (ap repair_to_answer e)))
-        (record { answer = refl; buffer = refl; line = tt })
+    pub finish-refused : (why : MeshRefusal) → r ≡ Err why → (before : List ℕ) → Ends (ran n ts ws) before before (Err (Repair why))
+    finish-refused why e before =
+        let is = ran-refused (to_refusal why) (answer_is (refused (to_refusal why)) (ap to_answer e)) in
+        rw (is ∙ ap refused (told_alone why)) (record { answer = refl; buffer = refl; line = tt })
 
 -- ---- packmap's buffer always has room: a job never ends with a listing of more than 16,384 bytes
 

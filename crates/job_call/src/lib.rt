@@ -2,25 +2,67 @@
 #![tactic(auto)]
 
 ghost use Rattle.std.specs.Prelude.{◌≡◌, ◌<◌};
-ghost use Rattle.definitions.specs.Answers.{done};
+ghost use Rattle.definitions.specs.Answers.{done, number};
 ghost use Rattle.definitions.specs.Mesh.{org};
 ghost use Rattle.definitions.specs.Backward.{coordinate};
-ghost use Rattle.definitions.specs.Job.{listing as listing_of, run_job, host_call};
+ghost use Rattle.definitions.specs.Job.{listing as listing_of, run_job, line_of, host_call};
 ghost use Rattle.job_call.specs.Model.{ran, Fitting, outcome};
-ghost use Rattle.job_call.specs.Answer.{Ends, Near, job_to_answer};
+ghost use Rattle.job_call.specs.Answer.{Ends, Near, job_to_answer, job_to_refusal, of_read, of_repair};
 
 use lent_slices::SCRATCH_WORDS;
-use mesh_answer::number_of;
-use repair_call::RepairAnswer;
-use text_read_job::{MOST_VERTICES, Reading};
-use text_write_listing::Listed;
+use mesh_answer::Refusal;
+use mesh_check::Mesh;
+use text_read_job::{MOST_VERTICES, ReadError};
 
-// listed, with the listing's length; refused, with the number of the row; or 17, with the line
-#[derive(Clone, Copy)]
-pub enum JobAnswer {
-    Listed(usize),
-    Refused(u32),
-    Broken(usize),
+// Why a job gets no listing: its text gives no job, its repair is refused, or the buffer is too short for the listing.
+#[derive(Clone, Copy, Debug, PartialEq, Eq)]
+pub enum JobRefusal {
+    Text(ReadError),
+    Repair(Refusal),
+    ListingLength,
+}
+
+impl JobRefusal {
+    // the number of the row
+    pub fn number(self) -> u32
+        ensures { result ≡ number (job_to_refusal self) }
+    {
+        match self {
+            JobRefusal::Text(ReadError::TooLong) => 19,
+            JobRefusal::Text(ReadError::Size) => 1,
+            JobRefusal::Text(ReadError::Line(_)) => 17,
+            JobRefusal::Repair(why) => why.number(),
+            JobRefusal::ListingLength => 18,
+        }
+    }
+
+    // the line of 17, and else 0
+    #[tactic(auto, unfolding(definitions::specs::Job::line_of))]
+    pub fn line(self) -> usize
+        ensures { result ≡ line_of (job_to_refusal self) }
+    {
+        match self {
+            JobRefusal::Text(ReadError::Line(line)) => line,
+            JobRefusal::Text(ReadError::TooLong | ReadError::Size) => 0,
+            JobRefusal::Repair(_) | JobRefusal::ListingLength => 0,
+        }
+    }
+}
+
+impl From<ReadError> for JobRefusal {
+    ghost from_gives = { λ read why. why ≡ of_read read };
+
+    fn from(read: ReadError) -> JobRefusal {
+        JobRefusal::Text(read)
+    }
+}
+
+impl From<Refusal> for JobRefusal {
+    ghost from_gives = { λ repair why. why ≡ of_repair repair };
+
+    fn from(repair: Refusal) -> JobRefusal {
+        JobRefusal::Repair(repair)
+    }
 }
 
 // the lengths that the largest job wants
@@ -37,11 +79,7 @@ fn first_corner(triangles: &[u16]) -> usize
     ensures is { result ≡ org triangles.now 0 }
     ensures small { result < 65536 }
 {
-    if 0 < triangles.len() {
-        int64::widen(triangles[0])
-    } else {
-        0
-    }
+    usize::from(triangles.first().copied().unwrap_or(0))
 }
 
 // The listing of repaired weights, by their coordinates. N is b0 of v0.
@@ -51,59 +89,55 @@ fn list(
     raises: usize,
     coordinates: &[i64],
     listing: &mut [u8],
-) -> JobAnswer
+) -> Result<usize, JobRefusal>
     requires { (n < 65536) × (raises < 65536) }
     ensures { Ends (done (listing_of n (coordinate coordinates.now 0 (org triangles.now 0)) raises coordinates.now))
         listing.old listing.new result }
 {
-    let total = int64::coordinate_of(coordinates, 0, first_corner(triangles));
-    match text_write_listing::write_listing(n, total, raises, coordinates, listing) {
-        Listed::Bytes(length) => JobAnswer::Listed(length),
-        Listed::Short => JobAnswer::Refused(18),
-    }
+    let total = text_write_listing::coordinate_of(coordinates, 0, first_corner(triangles));
+    text_write_listing::write_listing(n, total, raises, coordinates, listing).ok_or(
+        JobRefusal::ListingLength,
+    )
 }
 
 // A job that is read, over arrays with room for the largest one. Its first triangle is the outer one.
-fn finish(n: usize, triangles: &[u16], weights: &mut [i64], listing: &mut [u8]) -> JobAnswer
+fn finish(
+    n: usize,
+    triangles: &[u16],
+    weights: &mut [i64],
+    listing: &mut [u8],
+) -> Result<usize, JobRefusal>
     requires { Fitting n triangles.now weights.old }
     ensures { Ends (ran n triangles.now weights.old) listing.old listing.new result }
 {
-    let mut coordinates: [i64; COORDINATES] = [0; COORDINATES];
-    let mut scratch: [i64; SCRATCH] = [0; SCRATCH];
-    let places = &mut coordinates[..3 * n];
-    match repair_call::repair(
+    let mut coordinates = [0; COORDINATES];
+    let mut scratch = [0; SCRATCH];
+    let mesh = Mesh {
         n,
-        0,
+        outer: 0,
         triangles,
-        weights,
-        places,
-        &mut scratch[..SCRATCH_WORDS * n],
-    ) {
-        RepairAnswer::Repaired(raises) => list(n, triangles, raises, places, listing),
-        RepairAnswer::Refused(why) => JobAnswer::Refused(number_of(why)),
-        RepairAnswer::Stopped(_) => JobAnswer::Refused(13),
-    }
+    };
+    let places = &mut coordinates[..3 * n];
+    let raises = repair_call::repair(&mesh, weights, places, &mut scratch[..SCRATCH_WORDS * n])?;
+    list(n, triangles, raises, places, listing)
 }
 
-// The whole job. The listing stands at the front of the buffer, and bytes past it keep what they held; a refused call leaves all of it as it was.
-pub fn run(text: &[u8], listing: &mut [u8]) -> JobAnswer
+// The whole job: the listing's length. The listing stands at the front of the buffer, and bytes past it keep what they held; a refused call leaves all of it
+// as it was.
+pub fn run(text: &[u8], listing: &mut [u8]) -> Result<usize, JobRefusal>
     ensures answer { job_to_answer result ≡ (outcome (run_job text.now) listing.old).answer }
     ensures listing { listing.new ≡ (outcome (run_job text.now) listing.old).buffer }
     ensures line { Near result }
 {
-    let mut triangles: [u16; TRIANGLES] = [0; TRIANGLES];
-    let mut weights: [i64; WEIGHTS] = [0; WEIGHTS];
-    match text_read_job::read_job(text, &mut triangles, &mut weights) {
-        Reading::Job(n) => finish(
-            n,
-            &triangles[..3 * (2 * n - 4)],
-            &mut weights[..2 * n - 5],
-            listing,
-        ),
-        Reading::TooLong => JobAnswer::Refused(19),
-        Reading::Size => JobAnswer::Refused(1),
-        Reading::Line(line) => JobAnswer::Broken(line),
-    }
+    let mut triangles = [0; TRIANGLES];
+    let mut weights = [0; WEIGHTS];
+    let n = text_read_job::read_job(text, &mut triangles, &mut weights)?;
+    finish(
+        n,
+        &triangles[..3 * (2 * n - 4)],
+        &mut weights[..2 * n - 5],
+        listing,
+    )
 }
 
 // The call for the host service: the listing's length, or 65,536 × (1 + line) plus the number of the refusal, line being 0 unless it is 17.
@@ -112,8 +146,7 @@ pub fn packmap_job(text: &[u8], listing: &mut [u8]) -> u64
     ensures listing { listing.new ≡ (host_call text.now listing.old).listing }
 {
     match run(text, listing) {
-        JobAnswer::Listed(length) => length as u64,
-        JobAnswer::Refused(number) => 65_536 + number as u64,
-        JobAnswer::Broken(line) => 65_536 * (1 + line as u64) + 17,
+        Ok(length) => length as u64,
+        Err(why) => 65_536 * (1 + why.line() as u64) + u64::from(why.number()),
     }
 }

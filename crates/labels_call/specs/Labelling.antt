@@ -1,5 +1,5 @@
 -- What scratch holds after the mesh check and the labels stage, and that the labels read from it are the definition's. Assumes nothing.
-use Rattle.std.specs.Prelude.{ℕ, zero, suc, ◌+◌, ◌*◌, ◌/◌, ◌%◌, ◌<◌, ◌≡◌, refl, List, [], ◌∷◌, length, get_or, ℤ}
+use Rattle.std.specs.Prelude.{ℕ, zero, suc, ◌+◌, ◌*◌, ◌/◌, ◌%◌, ◌<◌, ◌≡◌, refl, List, [], ◌∷◌, length, get_or, ℤ, Result, Ok, Err}
 use Rattle.std.proofs.Common.{sym, ◌∙◌, arith, ext_get_or}
 use Rattle.std.proofs.Math.Option.{none, some}
 use Rattle.std.proofs.Math.Numerals.{add-three}
@@ -14,11 +14,9 @@ use Rattle.mesh_tables.specs.Incidence.{incidence_of, incidence}
 use Rattle.labels_tables.specs.Peeling.{peeling_of, peeling}
 use Rattle.labels_tables.specs.LabelledTables.{Peeled, label_in, label_in_is}
 use Rattle.labels_write.specs.Writing.{Readable}
-use Rattle.mesh_answer.specs.Answer.{to_refusal, refusal_in}
+use Rattle.mesh_answer.specs.Answer.{to_refusal}
 use Rattle.mesh_answer.specs.declared.Refusal.{Refusal}
 use Rattle.mesh_check.specs.Stages.{Lent, mesh-lent, Examined, AcceptingRim, accepted_none, accepting_mesh}
-use Rattle.mesh_answer.specs.declared.MeshAnswer.{MeshAnswer}
-use Rattle.mesh_answer.specs.declared.MeshAnswer.TheVariants.{Accepted, Refused}
 use Rattle.labels_model.specs.Counters.{Meshed}
 use Rattle.labels_model.specs.Model.{peel_tables}
 use Rattle.labels_model.specs.Preconditions.{Room, HasMesh, has_mesh}
@@ -30,18 +28,19 @@ pub record LabelledRim (n outer_place : ℕ) (ts : List ℕ) (s : List ℤ) : Ty
   pub peeled : Peeled n (fronted outer_place ts) (labels n (fronted outer_place ts)) s
 
 -- what the answer says: so it is, or a row has found something
-abbrev pub Labelling : ℕ → ℕ → List ℕ → List ℤ → MeshAnswer → Type 0
-Labelling n outer_place ts s Accepted = LabelledRim n outer_place ts s
-Labelling n outer_place ts s (Refused why) = first_refusal (rim_rows n outer_place ts) ≡ some (to_refusal why)
+abbrev pub Labelling : ℕ → ℕ → List ℕ → List ℤ → Result (Unit {0}) Refusal → Type 0
+Labelling n outer_place ts s (Ok x) = LabelledRim n outer_place ts s
+Labelling n outer_place ts s (Err why) = first_refusal (rim_rows n outer_place ts) ≡ some (to_refusal why)
 
 -- ---- an answer taken apart
 
 module _ (n outer_place : ℕ) (ts : List ℕ) where
-  pub labelling_refused : (s : List ℤ) (r : MeshAnswer) (why : Refusal) → r ≡ Refused why → Examined n outer_place ts s r → Labelling n outer_place ts s r
-  labelling_refused s r why e S = let p : Examined n outer_place ts s (Refused why) = rw e at S in rw e p
+  pub labelling_refused : (s : List ℤ) (r : Result (Unit {0}) Refusal) (why : Refusal) → r ≡ Err why → Examined n outer_place ts s r
+      → Labelling n outer_place ts s r
+  labelling_refused s r why e S = let p : Examined n outer_place ts s (Err why) = rw e at S in rw e p
 
   -- what the stage asks, and what it leaves, where the mesh check has accepted
-  module _ (words : ℕ) (L : Lent n ts words) (s : List ℤ) (a : MeshAnswer) (e : a ≡ Accepted) (S : Examined n outer_place ts s a) where
+  module _ (words : ℕ) (L : Lent n ts words) (s : List ℤ) (a : Result (Unit {0}) Refusal) (e : a ≡ Ok tt) (S : Examined n outer_place ts s a) where
     abbrev mesh : List ℕ
     mesh = fronted outer_place ts
 
@@ -68,16 +67,11 @@ module _ (n outer_place : ℕ) (ts : List ℕ) where
       peeled = peeled_tables n mesh sphere M.triangles M.most (peeling s) meshed s' (rw l M.room) f;
     }
 
-  pub labelled_refused : (s : List ℤ) (a : MeshAnswer) (why : Refusal) → a ≡ Refused why → Labelling n outer_place ts s a →
-      first_refusal (rim_rows n outer_place ts) ≡ some (to_refusal (refusal_in a))
-  labelled_refused s a why e S = rw e (rw e at S)
+  pub labelled_refused : (s : List ℤ) (a : Result (Unit {0}) Refusal) (why : Refusal) → a ≡ Err why → Labelling n outer_place ts s a →
+      first_refusal (rim_rows n outer_place ts) ≡ some (to_refusal why)
+  labelled_refused s a why e S = rw e at S
 
-  pub labelled_else : (s : List ℤ) (a : MeshAnswer) → (a ≡ Accepted → ⊥) → Labelling n outer_place ts s a →
-      first_refusal (rim_rows n outer_place ts) ≡ some (to_refusal (refusal_in a))
-  labelled_else s Accepted e S = absurd (e refl)
-  labelled_else s (Refused why) e S = labelled_refused s (Refused why) why refl S
-
-  pub labelled_accepted : (s : List ℤ) (a : MeshAnswer) → a ≡ Accepted → Labelling n outer_place ts s a → LabelledRim n outer_place ts s
+  pub labelled_accepted : (s : List ℤ) (a : Result (Unit {0}) Refusal) → a ≡ Ok tt → Labelling n outer_place ts s a → LabelledRim n outer_place ts s
   labelled_accepted s a e S = rw e at S
 
 -- ---- the labels, read from scratch

@@ -5,74 +5,62 @@
 
 ghost use Rattle.std.specs.Prelude.{◌≡◌, length};
 ghost use Rattle.definitions.specs.Refusals.{labels_call};
+ghost use Rattle.mesh_answer.specs.Answer.{to_answer};
 ghost use Rattle.mesh_check.specs.Stages.{Lent};
-ghost use Rattle.labels_call.specs.Answer.{labels_to_answer};
 ghost use Rattle.labels_call.specs.CallOutcomes.{LabelsFit};
 ghost use Rattle.labels_call.specs.Labelling.{Labelling};
 
-use lent_slices::labels_rows;
-use mesh_answer::{MeshAnswer, Refusal, refusal_of};
-use mesh_check::examine;
+use lent_slices::{Contents, check_sizes};
+use mesh_answer::Refusal;
+use mesh_check::{Mesh, examine};
 use scratch_tables::clear;
-
-// the labels are written, or the call is refused
-#[derive(Clone, Copy)]
-pub enum LabelsAnswer {
-    Written,
-    Refused(Refusal),
-}
 
 // Rows 21 and 3 to 8 and the labels stage, for every call that needs labels. Where the mesh is accepted scratch holds the labels and the trace of the peeling.
 // Where it is refused nothing is said of scratch: the call clears it.
-pub fn label_mesh(n: usize, outer: usize, triangles: &[u16], scratch: &mut [i64]) -> MeshAnswer
-    requires { Lent n triangles.now (length scratch.old) }
-    ensures { Labelling n outer triangles.now scratch.new result }
+pub fn label_mesh(mesh: &Mesh, scratch: &mut [i64]) -> Result<(), Refusal>
+    requires { Lent mesh.now.n mesh.now.triangles.now (length scratch.old) }
+    ensures { Labelling mesh.now.n mesh.now.outer mesh.now.triangles.now scratch.new result }
 {
-    let examined = examine(n, outer, triangles, scratch);
-    let MeshAnswer::Accepted = examined else {
+    // `let .. else`, and not `?`: document 01 names this form for the accepted mesh answer.
+    let examined = examine(mesh, scratch);
+    let Ok(()) = examined else {
         return examined;
     };
-    labels_peel::peel(n, scratch);
-    MeshAnswer::Accepted
+    labels_peel::peel(mesh.n, scratch);
+    Ok(())
 }
 
 // Rows 21 and 3 to 8, and the labels. Nothing is said of scratch: the call clears it.
-fn run_labels(
-    n: usize,
-    outer: usize,
-    triangles: &[u16],
-    labels: &mut [u8],
-    scratch: &mut [i64],
-) -> LabelsAnswer
-    requires { LabelsFit n triangles.now labels.old scratch.old }
-    ensures answer { labels_to_answer result ≡ (labels_call n outer triangles.now labels.old scratch.old).answer }
-    ensures labels { labels.new ≡ (labels_call n outer triangles.now labels.old scratch.old).labels }
+fn run_labels(mesh: &Mesh, labels: &mut [u8], scratch: &mut [i64]) -> Result<(), Refusal>
+    requires { LabelsFit mesh.now.n mesh.now.triangles.now labels.old scratch.old }
+    ensures answer { to_answer result ≡
+        (labels_call mesh.now.n mesh.now.outer mesh.now.triangles.now labels.old scratch.old).answer }
+    ensures labels { labels.new ≡
+        (labels_call mesh.now.n mesh.now.outer mesh.now.triangles.now labels.old scratch.old).labels }
 {
-    let labelled = label_mesh(n, outer, triangles, scratch);
-    let MeshAnswer::Accepted = labelled else {
-        return LabelsAnswer::Refused(refusal_of(labelled));
-    };
+    label_mesh(mesh, scratch)?;
     labels_write::write_labels(labels, scratch);
-    LabelsAnswer::Written
+    Ok(())
 }
 
 // The public call. Scratch is as lent after 1 and 2, and holds zeros after every other answer.
-pub fn labels(
-    n: usize,
-    outer: usize,
-    triangles: &[u16],
-    labels: &mut [u8],
-    scratch: &mut [i64],
-) -> LabelsAnswer
-    ensures answer { labels_to_answer result ≡ (labels_call n outer triangles.now labels.old scratch.old).answer }
-    ensures labels { labels.new ≡ (labels_call n outer triangles.now labels.old scratch.old).labels }
-    ensures scratch { scratch.new ≡ (labels_call n outer triangles.now labels.old scratch.old).scratch }
+pub fn labels(mesh: &Mesh, labels: &mut [u8], scratch: &mut [i64]) -> Result<(), Refusal>
+    ensures answer { to_answer result ≡
+        (labels_call mesh.now.n mesh.now.outer mesh.now.triangles.now labels.old scratch.old).answer }
+    ensures labels { labels.new ≡
+        (labels_call mesh.now.n mesh.now.outer mesh.now.triangles.now labels.old scratch.old).labels }
+    ensures scratch { scratch.new ≡
+        (labels_call mesh.now.n mesh.now.outer mesh.now.triangles.now labels.old scratch.old).scratch }
 {
-    let number = labels_rows(n, triangles.len(), labels.len(), scratch.len());
-    if number != 0 {
-        return LabelsAnswer::Refused(Refusal::Numbered(number));
-    }
-    let answer = run_labels(n, outer, triangles, labels, scratch);
+    check_sizes(
+        mesh.n,
+        &[
+            (Contents::Triangles, mesh.triangles.len()),
+            (Contents::Scratch, scratch.len()),
+            (Contents::Labels, labels.len()),
+        ],
+    )?;
+    let answer = run_labels(mesh, labels, scratch);
     clear(scratch);
     answer
 }

@@ -1,17 +1,17 @@
 -- The tests and stores of the code that brings vertices onto the frontier and takes them off it, put together to the definitions of the work: each law has
 -- its premises as the code hands them over. Assumes nothing.
-use Rattle.std.specs.Prelude.{ℕ, suc, ◌+◌, ◌-◌, ◌*◌, ◌/◌, ◌%◌, ◌≤◌, ◌<◌, ◌^◌, ◌≡◌, refl, false, cond, List, eqb, length, ℤ}
+use Rattle.std.specs.Prelude.{length, ℕ, suc, ◌+◌, ◌-◌, ◌*◌, ◌/◌, ◌≤◌, ◌<◌, ◌^◌, ◌≡◌, refl, false, cond, eqb}
 use Rattle.std.proofs.Math.Path.{sym, ap}
-use Rattle.std.proofs.Common.{◌∙◌, arith, lt-ltb, le-ltb, eq-eqb, ne_eqb}
+use Rattle.std.proofs.Common.{◌∙◌, arith, eq-eqb, ne_eqb}
 use Rattle.std.proofs.Math.Decide.{ℕ_discrete}
-use Rattle.definitions.specs.Mesh.{triangles_length, tri, next, prev}
+use Rattle.definitions.specs.Mesh.{triangles_length, next, prev}
 use Rattle.theory_sphere.specs.Darts.{next-below, prev-below}
 use Rattle.scratch_tables.specs.Tables.{Tables, dart_in, vertex_in, set_mark}
-use Rattle.labels_tables.specs.Peeling.{Peeling, peeling_of, peeling, peeling-order, set_apex, set_degree, set_left, set_right, set_order}
-use Rattle.labels_search.specs.Sets.{add_to}
-use Rattle.labels_search.specs.Stores.{with_sets}
-use Rattle.labels_model.specs.Model.{Counted, update_degree, add_candidate, decrement_degree, increment_degree, count_neighbour, count_neighbours}
-use Rattle.labels_model.specs.Model.{enter_frontier, add_frontier_dart, pass_triangle, pass_fan, leave_frontier, remove_vertex}
+use Rattle.labels_tables.specs.Peeling.{Peeling, peeling_of, peeling-order, set_order}
+use Rattle.labels_search.specs.declared.Stage.{Stage}
+use Rattle.labels_search.specs.Staged.{Same}
+use Rattle.labels_model.specs.Model.{Counted, decrement_degree, count_neighbour, count_neighbours}
+use Rattle.labels_model.specs.Model.{enter_frontier, pass_triangle, pass_fan, leave_frontier}
 use Rattle.labels_model.specs.Counters.{Beside, InRange, range_beside}
 use Rattle.labels_model.specs.Turns.{steps_to, Ends, goes_on, steps_less}
 use Rattle.labels_model.specs.FrontierInsert.{count_neighbour_beside, count_neighbour-degree, count_neighbour_most, enter_beside}
@@ -21,6 +21,12 @@ use Rattle.labels_model.specs.Preconditions.{Room, CanEnter, CanPass, CanLeave, 
 use Rattle.labels_model.proofs.Preconditions.{pass_on, leave-mesh, leave_vertex, leave-left, leave_right, left-two, right_two, leave_pass}
 
 -- ---- room
+
+pub room_of : (s : Stage) → Room s.n (length s.words.now)
+room_of s = record { least = s.room.0; most = s.room.1; room = s.room.2 }
+
+pub room_in : {s₀ s : Stage} → Same s₀ s → Room s₀.n (length s.words.now)
+room_in {s₀} {s} e = rw (sym e.n) (room_of s)
 
 pub dart_in_lem : {n words : ℕ} (d : ℕ) → Room n words → d < triangles_length n → dart_in words d
 dart_in_lem d r h = omega (arith, r.room)
@@ -49,39 +55,7 @@ triangle_in g t r i h = record {
   to = omega (arith, r.room, i.origin_in (next g) (omega arith));
 }
 
-pub triangle_vertices : {words g : ℕ} {t : Peeling} (p q v w x words' : ℕ) → TriangleIn words g t → p ≡ prev g → v ≡ t.origin p → q ≡ next g →
-    w ≡ t.origin q → x < 65536 → words' ≡ words → vertex_in words' v × vertex_in words' w × (x < 65536)
-triangle_vertices {words} {g} {t} p q v w x words' r a b c d h e =
-    (omega (arith, b, ap t.origin a, r.from, e), omega (arith, d, ap t.origin c, r.to, e), h)
-
--- ---- degrees
-
-module _ (n w c : ℕ) (t t' : Peeling) where
-  pub update_degree-three : (t'' : Peeling) → t' ≡ set_degree w c t → c ≡ 3 → t'' ≡ with_sets (add_to n w t'.sets) t' → t'' ≡ update_degree n w c t
-  unfolding update_degree add_candidate
-  update_degree-three t'' e h q = rw (eq-eqb c 3 h) (q ∙ ap (λ (p : Peeling). with_sets (add_to n w p.sets) p) e)
-
-  pub update_degree-other : t' ≡ set_degree w c t → (c ≡ 3 → ⊥) → t' ≡ update_degree n w c t
-  unfolding update_degree
-  update_degree-other e h = rw (ne_eqb c 3 h) e
-
-  pub decrement_degree_is : c ≡ t.degree w → t' ≡ update_degree n w (c - 1) t → t' ≡ decrement_degree n w t
-  unfolding decrement_degree
-  decrement_degree_is e q = q ∙ ap (λ (x : ℕ). update_degree n w (x - 1) t) e
-
 -- ---- a vertex comes onto the frontier
-
-module _ (n w c k : ℕ) (t : Peeling) where
-  pub count_neighbour-on : (t' : Peeling) → k ≡ t.degree w → 0 < k → t' ≡ update_degree n w (k + 1) t →
-      count_neighbour n w c t ≡ record { count = c + 1; tables = t' }
-  unfolding count_neighbour increment_degree
-  count_neighbour-on t' e h q =
-      rw (lt-ltb 0 (t.degree w) (omega (arith, e))) (ap (λ (x : Peeling). record { count = c + 1; tables = x })
-      (ap (λ (x : ℕ). update_degree n w (x + 1) t) (sym e) ∙ sym q))
-
-  pub count_neighbour_off : k ≡ t.degree w → k ≤ 0 → count_neighbour n w c t ≡ record { count = c; tables = t }
-  unfolding count_neighbour
-  count_neighbour_off e h = rw (le-ltb 0 (t.degree w) (omega (arith, e)))
 
 -- the walk round a vertex is at dart d and has counted c; t₀ were the tables at its start
 pub record Walk (n first : ℕ) (t₀ t : Peeling) (d c : ℕ) : Type 0 where
@@ -115,13 +89,10 @@ module _ {n first : ℕ} {t₀ t : Peeling} {d c : ℕ} (W : Walk n first t₀ t
   pub walk-prev : (p words : ℕ) → Room n words → p ≡ prev d → dart_in words p
   walk-prev p words r e = prev_in d p r W.dart e
 
-  pub walk_here : (words : ℕ) → Room n words → dart_in words d
-  walk_here words r = dart_in_lem d r W.dart
-
-  pub walk_asks : (p w words : ℕ) → Room n words → p ≡ prev d → w ≡ t.origin p → Room n words × (w < n) × (t.degree w < 65535) × (c < 65535)
-  walk_asks p w words r e q =
+  pub walk_asks : (p w : ℕ) → p ≡ prev d → w ≡ t.origin p → (w < n) × (t.degree w < 65535) × (c < 65535)
+  walk_asks p w e q =
       let h : w < n = rw (q, e) (W.range.origin_in (prev d) (prev-below (2 * n - 4) d W.dart)) in
-      (r, h, omega (arith, W.low w h), omega (arith, W.few))
+      (h, omega (arith, W.low w h), omega (arith, W.few))
 
 -- it is over, or goes on from where the turn leads
 count_neighbours-suc : (n first k d c p w h c' : ℕ) (t t' : Peeling) → p ≡ prev d → w ≡ t.origin p → h ≡ t.turn d →
@@ -178,26 +149,7 @@ module _ {n first : ℕ} {t₀ t t' : Peeling} {d c : ℕ} (W : Walk n first t�
   pub walk-on : (h ≡ first → ⊥) → Walk n first t₀ t' h c'
   walk-on z = rw turned at (walk_turned z)
 
--- the loop, where s was the scratch at its start
-pub record CountLoop (n first : ℕ) (s s' : List ℤ) (d c : ℕ) : Type 0 where
-  pub long : length s' ≡ length s
-  pub walk : Walk n first (peeling s) (peeling s') d c
-
-pub enter_frontier_is : (n u d c : ℕ) (t t' t'' : Peeling) → count_neighbours n d (6 * n) d 1 t ≡ record { count = c; tables = t' } →
-    t'' ≡ update_degree n u c t' → t'' ≡ enter_frontier n u d t
-unfolding enter_frontier
-enter_frontier_is n u d c t t' t'' a b = rw a b
-
 -- ---- a triangle is passed
-
-pub add_frontier_dart_is : (v w x : ℕ) (t t' t'' : Peeling) → t' ≡ set_right w x t → t'' ≡ set_left v x t' → t'' ≡ add_frontier_dart v w x t
-unfolding add_frontier_dart
-add_frontier_dart_is v w x t t' t'' a b = b ∙ ap (set_left v x) a
-
-pub pass_triangle_is : (g p q v x w : ℕ) (t t' t'' : Peeling) → p ≡ prev g → v ≡ t.origin p → x ≡ t.turn p → q ≡ next g → w ≡ t.origin q →
-    t' ≡ set_apex (g / 3) (g % 3) t → t'' ≡ add_frontier_dart v w x t' → t'' ≡ pass_triangle g t
-unfolding pass_triangle tri
-pass_triangle_is g p q v x w t t' t'' ep ev ex eq ew a b = b ∙ rw (ev, ex, ew, ep, eq, a)
 
 -- the fan is at dart g; t₀ were the tables at its start
 pub record Fan (n right first : ℕ) (t₀ t : Peeling) (g : ℕ) : Type 0 where
@@ -285,11 +237,6 @@ module _ {n right first : ℕ} {t₀ t t' : Peeling} {g : ℕ} (f : Fan n right 
     pub fan-on : (u ≡ right → ⊥) → Fan n right first t₀ t'' h
     fan-on z = rw onto at (fan_turned z)
 
--- the loop, where s was the scratch at its start
-pub record FanLoop (n right first : ℕ) (s s' : List ℤ) (g : ℕ) : Type 0 where
-  pub long : length s' ≡ length s
-  pub fan : Fan n right first (peeling s) (peeling s') g
-
 -- ---- a vertex leaves
 
 pub removed_is : (t t' : Tables) (i v : ℕ) → t' ≡ set_mark (2 * i + 1) v t → peeling_of t' ≡ set_order i v (peeling_of t)
@@ -301,11 +248,6 @@ still_some n left right t t' h k e = rw e (elim (ℕ_discrete right left) [
   | yes q ↦ rw q (omega (arith, k, decrement_degree-same n left t))
   | no q ↦ omega (arith, h, decrement_degree-other n left right t q)
 ])
-
-pub leave_frontier_is : (n i v left right : ℕ) (t t1 t2 t3 t4 : Peeling) → t1 ≡ decrement_degree n left t → t2 ≡ decrement_degree n right t1 →
-    t3 ≡ set_degree v 0 t2 → t4 ≡ set_order i v t3 → t4 ≡ leave_frontier n i v left right t
-unfolding leave_frontier
-leave_frontier_is n i v left right t t1 t2 t3 t4 a b c d = d ∙ ap (set_order i v) (c ∙ ap (set_degree v 0) (b ∙ ap (decrement_degree n right) a))
 
 -- what a vertex that can leave asks
 module _ {n v : ℕ} {t : Peeling} (c : CanLeave n v t) where
@@ -326,11 +268,9 @@ module _ {n v : ℕ} {t : Peeling} (c : CanLeave n v t) where
     right_at : right ≡ t.origin (t.right v)
     right_at = e ∙ ap t.origin d
 
-    pub leave_asks : (words : ℕ) → Room n words → i < n →
-        Room n words × (i < n) × (v < n) × (left < n) × (right < n) × (1 < t.degree left) × (1 < t.degree right)
-    leave_asks words r h =
+    pub leave_asks : i < n → (i < n) × (v < n) × (left < n) × (right < n) × (1 < t.degree left) × (1 < t.degree right)
+    leave_asks h =
         let l = has_range (leave-mesh c) in (
-          r,
           h,
           leave_vertex c,
           rw left_at (l.origin_in (next (t.left v)) (next-below (2 * n - 4) (t.left v) (leave-left c))),
@@ -341,11 +281,3 @@ module _ {n v : ℕ} {t : Peeling} (c : CanLeave n v t) where
 
     pub leave-passes : (t' : Peeling) → t' ≡ leave_frontier n i v left right t → CanPass n right g t'
     leave-passes t' q = rw (q, left_at, right_at, a) (leave_pass c i)
-
-pub remove_vertex_is : (n i v g left x right : ℕ) (t t' t'' : Peeling) → g ≡ t.left v → left ≡ t.origin (next g) → x ≡ t.right v → right ≡ t.origin x →
-    t' ≡ leave_frontier n i v left right t → t'' ≡ pass_fan n right (6 * n) g t' → t'' ≡ remove_vertex n i v t
-unfolding remove_vertex
-remove_vertex_is n i v g left x right t t' t'' a b c d e q =
-    let l : left ≡ t.origin (next (t.left v)) = b ∙ ap (λ (y : ℕ). t.origin (next y)) a in
-    let r : right ≡ t.origin (t.right v) = d ∙ ap t.origin c in
-    rw (sym l, sym r, sym a) (rw e at q)

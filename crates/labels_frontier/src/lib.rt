@@ -3,51 +3,57 @@
 // leave it so.
 #![tactic(auto)]
 
-ghost use Rattle.std.specs.Prelude.{◌≡◌, ◌*◌, ◌<◌, ◌^◌, length};
+ghost use Rattle.std.specs.Prelude.{◌≡◌, ◌+◌, ◌*◌, ◌<◌, ◌^◌, length};
 ghost use Rattle.scratch_tables.specs.Tables.{vertex_in};
 ghost use Rattle.labels_tables.specs.Peeling.{peeling, set_order};
-ghost use Rattle.labels_model.specs.Preconditions.{Room, CanEnter, CanPass, CanLeave};
-ghost use Rattle.labels_model.specs.Model.{update_degree, decrement_degree, count_neighbour, count_neighbours, enter_frontier, add_frontier_dart, pass_triangle};
-ghost use Rattle.labels_model.specs.Model.{pass_fan, leave_frontier, remove_vertex};
+ghost use Rattle.labels_search.specs.Staged.{tables, Same, Becomes};
+ghost use Rattle.labels_model.specs.Preconditions.{CanEnter, CanPass, CanLeave};
+ghost use Rattle.labels_model.specs.Model.{update_degree, decrement_degree, count_neighbour, count_neighbours, enter_frontier, add_frontier_dart};
+ghost use Rattle.labels_model.specs.Model.{pass_triangle, pass_fan, leave_frontier, remove_vertex};
 ghost use Rattle.labels_frontier.specs.FrontierLaws.{TriangleIn};
 
+use labels_search::Stage;
 use labels_tables::{
     degree, left_dart, origin, right_dart, set_apex, set_degree, set_left, set_right, tip, turn,
 };
-use scratch_tables::{next_dart, prev_dart};
+use scratch_tables::{Column, next_dart, prev_dart};
 
 // ---- degrees
 
 // the degree of w, with which it may be able to leave
-fn update_degree(n: usize, s: &mut [i64], w: usize, c: usize)
-    requires { Room n (length s.old) × (w < n) × (c < 65536) }
-    ensures { peeling s.new ≡ update_degree n w c (peeling s.old) }
+#[tactic(auto, unfolding(labels_model::specs::Model::update_degree, labels_model::specs::Model::add_candidate))]
+fn update_degree(s: &mut Stage<'_>, w: usize, c: usize)
+    requires { (w < s.old.n) × (c < 65536) }
+    ensures { Becomes s.old s.new (update_degree s.old.n w c (tables s.old)) }
 {
-    set_degree(s, w, c);
+    set_degree(s.words, w, c);
     if c == 3 {
-        labels_search::add(n, s, w);
+        s.add(w);
     }
 }
 
 // vertex w has one frontier neighbour less
-fn decrement_degree(n: usize, s: &mut [i64], w: usize)
-    requires { Room n (length s.old) × (w < n) × (0 < (peeling s.old).degree w) }
-    ensures { peeling s.new ≡ decrement_degree n w (peeling s.old) }
+#[tactic(auto, unfolding(labels_model::specs::Model::decrement_degree))]
+fn decrement_degree(s: &mut Stage<'_>, w: usize)
+    requires { (w < s.old.n) × (0 < (tables s.old).degree w) }
+    ensures { Becomes s.old s.new (decrement_degree s.old.n w (tables s.old)) }
 {
-    let c = degree(s, w);
-    update_degree(n, s, w, c - 1);
+    let c = degree(s.as_slice(), w);
+    update_degree(s, w, c - 1);
 }
 
 // ---- a vertex comes onto the frontier
 
 // w is a neighbour of a vertex that comes onto the frontier and has counted c: where w is on the frontier they count each other
-fn count_neighbour(n: usize, s: &mut [i64], w: usize, c: usize) -> usize
-    requires { Room n (length s.old) × (w < n) × ((peeling s.old).degree w < 65535) × (c < 65535) }
-    ensures { count_neighbour n w c (peeling s.old) ≡ record { count = result; tables = peeling s.new } }
+#[tactic(auto, unfolding(labels_model::specs::Model::count_neighbour, labels_model::specs::Model::increment_degree))]
+fn count_neighbour(s: &mut Stage<'_>, w: usize, c: usize) -> usize
+    requires { (w < s.old.n) × ((tables s.old).degree w < 65535) × (c < 65535) }
+    ensures same { Same s.old s.new }
+    ensures counted { count_neighbour s.old.n w c (tables s.old) ≡ record { count = result; tables = tables s.new } }
 {
-    let k = degree(s, w);
+    let k = degree(s.as_slice(), w);
     if 0 < k {
-        update_degree(n, s, w, k + 1);
+        update_degree(s, w, k + 1);
         c + 1
     } else {
         c
@@ -55,17 +61,19 @@ fn count_neighbour(n: usize, s: &mut [i64], w: usize, c: usize) -> usize
 }
 
 // the neighbours that turns from `first` on lead to, until it comes again; the answer is one more than were counted
-fn count_neighbours(n: usize, s: &mut [i64], first: usize) -> usize
-    requires { Room n (length s.old) × CanEnter n first (peeling s.old) }
-    ensures { (count_neighbours n first (6 * n) first 1 (peeling s.old) ≡ record { count = result; tables = peeling s.new })
-        × (result < 65536) }
+fn count_neighbours(s: &mut Stage<'_>, first: usize) -> usize
+    requires { CanEnter s.old.n first (tables s.old) }
+    ensures same { Same s.old s.new }
+    ensures counted { count_neighbours s.old.n first (6 * s.old.n) first 1 (tables s.old) ≡ record { count = result; tables = tables s.new } }
+    ensures few { result < 65536 }
 {
     let mut d = first;
     let mut c = 1;
     loop {
-        let w = origin(s, prev_dart(d));
-        let h = turn(s, d);
-        c = count_neighbour(n, s, w, c);
+        let words = s.as_slice();
+        let w = origin(words, prev_dart(d));
+        let h = turn(words, d);
+        c = count_neighbour(s, w, c);
         if h == first {
             return c;
         }
@@ -74,17 +82,19 @@ fn count_neighbours(n: usize, s: &mut [i64], first: usize) -> usize
 }
 
 // u comes onto the frontier; d is one of its darts
-fn enter_frontier(n: usize, s: &mut [i64], u: usize, d: usize)
-    requires { Room n (length s.old) × (u < n) × CanEnter n d (peeling s.old) }
-    ensures { peeling s.new ≡ enter_frontier n u d (peeling s.old) }
+#[tactic(auto, unfolding(labels_model::specs::Model::enter_frontier))]
+fn enter_frontier(s: &mut Stage<'_>, u: usize, d: usize)
+    requires { (u < s.old.n) × CanEnter s.old.n d (tables s.old) }
+    ensures { Becomes s.old s.new (enter_frontier s.old.n u d (tables s.old)) }
 {
-    let c = count_neighbours(n, s, d);
-    update_degree(n, s, u, c);
+    let c = count_neighbours(s, d);
+    update_degree(s, u, c);
 }
 
 // ---- a vertex leaves the frontier
 
 // a new dart of the frontier, from v to w
+#[tactic(auto, unfolding(labels_model::specs::Model::add_frontier_dart))]
 pub fn add_frontier_dart(s: &mut [i64], v: usize, w: usize, x: usize)
     requires { vertex_in (length s.old) v × vertex_in (length s.old) w × (x < 65536) }
     ensures { peeling s.new ≡ add_frontier_dart v w x (peeling s.old) }
@@ -94,6 +104,7 @@ pub fn add_frontier_dart(s: &mut [i64], v: usize, w: usize, x: usize)
 }
 
 // the triangle of dart g is passed
+#[tactic(auto, unfolding(labels_model::specs::Model::pass_triangle, definitions::specs::Mesh::tri))]
 fn pass_triangle(s: &mut [i64], g: usize)
     requires { TriangleIn (length s.old) g (peeling s.old) }
     ensures { peeling s.new ≡ pass_triangle g (peeling s.old) }
@@ -108,20 +119,21 @@ fn pass_triangle(s: &mut [i64], g: usize)
 
 // The triangles of the leaving vertex, from that of `first` on to the one that ends at `right`, are passed, and the vertices between come onto the
 // frontier.
-fn pass_fan(n: usize, s: &mut [i64], right: usize, first: usize)
-    requires { Room n (length s.old) × CanPass n right first (peeling s.old) }
-    ensures { peeling s.new ≡ pass_fan n right (6 * n) first (peeling s.old) }
+fn pass_fan(s: &mut Stage<'_>, right: usize, first: usize)
+    requires { CanPass s.old.n right first (tables s.old) }
+    ensures { Becomes s.old s.new (pass_fan s.old.n right (6 * s.old.n) first (tables s.old)) }
 {
     let mut g = first;
     loop {
         let p = prev_dart(g);
-        let u = origin(s, p);
-        let h = turn(s, g);
-        pass_triangle(s, g);
+        let words = s.as_slice();
+        let u = origin(words, p);
+        let h = turn(words, g);
+        pass_triangle(s.words, g);
         if u == right {
             return;
         }
-        enter_frontier(n, s, u, p);
+        enter_frontier(s, u, p);
         g = h;
     }
 }
@@ -131,28 +143,31 @@ fn set_removed(s: &mut [i64], i: usize, v: usize)
     requires { vertex_in (length s.old) i × (v < 2 ^ 63) }
     ensures { peeling s.new ≡ set_order i v (peeling s.old) }
 {
-    scratch_tables::set_order(s, i, v);
+    scratch_tables::set_word(s, Column::OddMark, i, v);
 }
 
 // v leaves as the i-th, from between `left` and `right`
-fn leave_frontier(n: usize, s: &mut [i64], i: usize, v: usize, left: usize, right: usize)
-    requires { Room n (length s.old) × (i < n) × (v < n) × (left < n) × (right < n) × (1 < (peeling s.old).degree left)
-        × (1 < (peeling s.old).degree right) }
-    ensures { peeling s.new ≡ leave_frontier n i v left right (peeling s.old) }
+#[tactic(auto, unfolding(labels_model::specs::Model::leave_frontier))]
+fn leave_frontier(s: &mut Stage<'_>, i: usize, v: usize, left: usize, right: usize)
+    requires { (i < s.old.n) × (v < s.old.n) × (left < s.old.n) × (right < s.old.n) × (1 < (tables s.old).degree left)
+        × (1 < (tables s.old).degree right) }
+    ensures { Becomes s.old s.new (leave_frontier s.old.n i v left right (tables s.old)) }
 {
-    decrement_degree(n, s, left);
-    decrement_degree(n, s, right);
-    set_degree(s, v, 0);
-    set_removed(s, i, v);
+    decrement_degree(s, left);
+    decrement_degree(s, right);
+    set_degree(s.words, v, 0);
+    set_removed(s.words, i, v);
 }
 
-pub fn remove_vertex(n: usize, s: &mut [i64], i: usize, v: usize)
-    requires { Room n (length s.old) × (i < n) × CanLeave n v (peeling s.old) }
-    ensures { peeling s.new ≡ remove_vertex n i v (peeling s.old) }
+#[tactic(auto, unfolding(labels_model::specs::Model::remove_vertex))]
+pub fn remove_vertex(s: &mut Stage<'_>, i: usize, v: usize)
+    requires { (i < s.old.n) × CanLeave s.old.n v (tables s.old) }
+    ensures { Becomes s.old s.new (remove_vertex s.old.n i v (tables s.old)) }
 {
-    let g = left_dart(s, v);
-    let left = tip(s, g);
-    let right = origin(s, right_dart(s, v));
-    leave_frontier(n, s, i, v, left, right);
-    pass_fan(n, s, right, g);
+    let words = s.as_slice();
+    let g = left_dart(words, v);
+    let left = tip(words, g);
+    let right = origin(words, right_dart(words, v));
+    leave_frontier(s, i, v, left, right);
+    pass_fan(s, right, g);
 }

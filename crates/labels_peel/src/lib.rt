@@ -5,37 +5,35 @@
 ghost use Rattle.std.specs.Prelude.{◌≡◌, ◌+◌, ◌-◌, ◌<◌, length};
 ghost use Rattle.scratch_tables.specs.Tables.{vertex_in};
 ghost use Rattle.labels_tables.specs.Peeling.{peeling};
+ghost use Rattle.labels_search.specs.Staged.{tables, Same, Becomes};
 ghost use Rattle.labels_model.specs.Preconditions.{Room, HasMesh, CanSearch, Stands};
 ghost use Rattle.labels_model.specs.Model.{is_removable, find_removable, remove_next, remove_all, clear_vertices, init_degrees, init_frontier, init_sets, init};
 ghost use Rattle.labels_model.specs.Model.{peel_tables};
 
 use labels_frontier::add_frontier_dart;
+use labels_search::Stage;
 use labels_tables::{degree, origin, set_degree, turn};
 
 // ---- the search for the smallest vertex that can leave
 
 // v is on the frontier, is not v0 or v1, and has two frontier neighbours
+#[tactic(auto, unfolding(labels_model::specs::Model::is_removable))]
 fn is_removable(s: &[i64], v: usize) -> bool
     requires { vertex_in (length s.now) v }
     ensures { result ≡ is_removable (peeling s.now) v }
 {
-    if degree(s, v) != 3 {
-        return false;
-    }
-    if v == origin(s, 0) {
-        return false;
-    }
-    v != origin(s, 2)
+    degree(s, v) == 3 && v != origin(s, 0) && v != origin(s, 2)
 }
 
 // candidates are taken until one can leave
-fn find_removable(n: usize, s: &mut [i64]) -> usize
-    requires { Room n (length s.old) × CanSearch n (peeling s.old) }
-    ensures { find_removable n n (peeling s.old) ≡ record { vertex = result; tables = peeling s.new } }
+fn find_removable(s: &mut Stage<'_>) -> usize
+    requires { CanSearch s.old.n (tables s.old) }
+    ensures same { Same s.old s.new }
+    ensures found { find_removable s.old.n s.old.n (tables s.old) ≡ record { vertex = result; tables = tables s.new } }
 {
     loop {
-        let v = labels_search::take_lowest(n, s);
-        if is_removable(s, v) {
+        let v = s.take_lowest();
+        if is_removable(s.as_slice(), v) {
             return v;
         }
     }
@@ -44,91 +42,95 @@ fn find_removable(n: usize, s: &mut [i64]) -> usize
 // ---- the vertices in turn
 
 // the smallest vertex that can leave does, as the i-th
-fn remove_next(n: usize, s: &mut [i64], i: usize)
-    requires { Room n (length s.old) × (i + 2 < n) × Stands n i (peeling s.old) }
-    ensures { peeling s.new ≡ remove_next n i (peeling s.old) }
+#[tactic(auto, unfolding(labels_model::specs::Model::remove_next))]
+fn remove_next(s: &mut Stage<'_>, i: usize)
+    requires { (i + 2 < s.old.n) × Stands s.old.n i (tables s.old) }
+    ensures { Becomes s.old s.new (remove_next s.old.n i (tables s.old)) }
 {
-    let v = find_removable(n, s);
-    labels_frontier::remove_vertex(n, s, i, v);
+    let v = find_removable(s);
+    labels_frontier::remove_vertex(s, i, v);
 }
 
 // all vertices but v0 and v1 leave
-fn remove_all(n: usize, s: &mut [i64])
-    requires { Room n (length s.old) × Stands n 0 (peeling s.old) }
-    ensures { peeling s.new ≡ remove_all n (n - 2) 0 (peeling s.old) }
+fn remove_all(s: &mut Stage<'_>)
+    requires { Stands s.old.n 0 (tables s.old) }
+    ensures { Becomes s.old s.new (remove_all s.old.n (s.old.n - 2) 0 (tables s.old)) }
 {
-    let mut i = 0;
-    while i + 2 < n {
-        remove_next(n, s, i);
-        i += 1;
+    for i in 0..s.n - 2 {
+        remove_next(s, i);
     }
 }
 
 // ---- the start
 
 // no vertex is on the frontier
-fn clear_vertices(n: usize, s: &mut [i64])
-    requires { Room n (length s.old) }
-    ensures { peeling s.new ≡ clear_vertices n 0 (peeling s.old) }
+fn clear_vertices(s: &mut Stage<'_>)
+    ensures { Becomes s.old s.new (clear_vertices s.old.n 0 (tables s.old)) }
 {
-    let mut v = 0;
-    while v < n {
-        labels_tables::set_vertex(s, v, 0, 0, 0);
-        v += 1;
+    for v in 0..s.n {
+        labels_tables::set_vertex(s.words, v, 0, 0, 0);
     }
 }
 
 // the outer vertices are, each with the two others as its frontier neighbours
-fn init_degrees(n: usize, s: &mut [i64])
-    requires { Room n (length s.old) × HasMesh n (peeling s.old) }
-    ensures { peeling s.new ≡ init_degrees (peeling s.old) }
+#[tactic(auto, unfolding(labels_model::specs::Model::init_degrees))]
+fn init_degrees(s: &mut Stage<'_>)
+    requires { HasMesh s.old.n (tables s.old) }
+    ensures { Becomes s.old s.new (init_degrees (tables s.old)) }
 {
-    let a = origin(s, 0);
-    let b = origin(s, 1);
-    let c = origin(s, 2);
-    set_degree(s, a, 3);
-    set_degree(s, b, 3);
-    set_degree(s, c, 3);
+    let words = s.as_slice();
+    let a = origin(words, 0);
+    let b = origin(words, 1);
+    let c = origin(words, 2);
+    set_degree(s.words, a, 3);
+    set_degree(s.words, b, 3);
+    set_degree(s.words, c, 3);
 }
 
-fn init_frontier(n: usize, s: &mut [i64])
-    requires { Room n (length s.old) × HasMesh n (peeling s.old) }
-    ensures { peeling s.new ≡ init_frontier (peeling s.old) }
+#[tactic(auto, unfolding(labels_model::specs::Model::init_frontier))]
+fn init_frontier(s: &mut Stage<'_>)
+    requires { HasMesh s.old.n (tables s.old) }
+    ensures { Becomes s.old s.new (init_frontier (tables s.old)) }
 {
-    let a = origin(s, 0);
-    let b = origin(s, 1);
-    let c = origin(s, 2);
-    let x = turn(s, 1);
-    let y = turn(s, 2);
-    add_frontier_dart(s, b, a, x);
-    add_frontier_dart(s, c, b, y);
+    let words = s.as_slice();
+    let a = origin(words, 0);
+    let b = origin(words, 1);
+    let c = origin(words, 2);
+    let x = turn(words, 1);
+    let y = turn(words, 2);
+    add_frontier_dart(s.words, b, a, x);
+    add_frontier_dart(s.words, c, b, y);
 }
 
 // v2 is the first candidate
-fn init_sets(n: usize, s: &mut [i64])
-    requires { Room n (length s.old) × HasMesh n (peeling s.old) }
-    ensures { peeling s.new ≡ init_sets n (peeling s.old) }
+#[tactic(auto, unfolding(labels_model::specs::Model::init_sets, labels_model::specs::Model::add_candidate))]
+fn init_sets(s: &mut Stage<'_>)
+    requires { HasMesh s.old.n (tables s.old) }
+    ensures { Becomes s.old s.new (init_sets s.old.n (tables s.old)) }
 {
-    let b = origin(s, 1);
-    labels_search::clear_sets(n, s);
-    labels_search::add(n, s, b);
+    let b = origin(s.as_slice(), 1);
+    s.clear_sets();
+    s.add(b);
 }
 
-fn init(n: usize, s: &mut [i64])
-    requires { Room n (length s.old) × HasMesh n (peeling s.old) }
-    ensures { peeling s.new ≡ init n (peeling s.old) }
+#[tactic(auto, unfolding(labels_model::specs::Model::init))]
+fn init(s: &mut Stage<'_>)
+    requires { HasMesh s.old.n (tables s.old) }
+    ensures { Becomes s.old s.new (init s.old.n (tables s.old)) }
 {
-    clear_vertices(n, s);
-    init_degrees(n, s);
-    init_frontier(n, s);
-    init_sets(n, s);
+    clear_vertices(s);
+    init_degrees(s);
+    init_frontier(s);
+    init_sets(s);
 }
 
 // the whole stage
+#[tactic(auto, unfolding(labels_model::specs::Model::peel_tables))]
 pub fn peel(n: usize, s: &mut [i64])
     requires { Room n (length s.old) × HasMesh n (peeling s.old) }
     ensures { peeling s.new ≡ peel_tables n (peeling s.old) }
 {
-    init(n, s);
-    remove_all(n, s);
+    let mut stage = Stage::new(n, s);
+    init(&mut stage);
+    remove_all(&mut stage);
 }

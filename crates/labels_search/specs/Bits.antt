@@ -229,11 +229,3 @@ unfolding with_bit
 shifted_set i x h l =
     let e : 1 * 2 ^ i % 2 ^ 64 ≡ 2 ^ i = rw (one-mul (2 ^ i)) (mod-eq_of_lt (pow-lt {i = i} {j = 64} (omega arith))) in
     rw e (refl, or_lt 63 x (2 ^ i) h (pow-lt {i = i} {j = 63} (omega arith)))
-
-pub summary_zero : (x y r : ℕ) → x ≡ 0 → r ≡ without_lowest y → r ≡ summary x y
-unfolding summary
-summary_zero x y r e q = q ∙ rw (eq-eqb x 0 e)
-
-pub summary-other : (x y : ℕ) → x ≢ 0 → y ≡ summary x y
-unfolding summary
-summary-other x y h = rw (ne_eqb x 0 h)

@@ -6,7 +6,7 @@ use Rattle.std.proofs.Math.Decide.{ℕ_discrete, dec_le}
 use Rattle.scratch_tables.specs.Tables.{Tables, set_count, vertex_in, upd, upd-at, upd_other}
 use Rattle.labels_tables.specs.Peeling.{Peeling, peeling_of}
 use Rattle.labels_search.specs.Bits.{with_bit, lowest_bit, without_lowest, summary}
-use Rattle.labels_search.specs.Sets.{first_block, places, is_empty, cleared_below, emptied, put, add_to, lowest_group, lowest_block, lowest, take_from}
+use Rattle.labels_search.specs.Sets.{first_block, is_empty, cleared_below, put, add_to, lowest_group, lowest_block, lowest, take_from}
 use Rattle.labels_search.specs.Sets.{Summed, not_empty, group_in, group_some, block_in, block_some, cleared_before, cleared_from}
 
 -- the tables with other words for the sets
@@ -102,6 +102,6 @@ pub cleared_more : (p p' p'' : Peeling) (k : ℕ) → p' ≡ with_sets (cleared_
 unfolding with_sets
 cleared_more p p' p'' k e q = q ∙ rw e (ap (λ (f : ℕ → ℕ). with_sets f p) (cleared_one p.sets k))
 
-pub cleared_all : (n : ℕ) (p p' : Peeling) (k : ℕ) → p' ≡ with_sets (cleared_below k p.sets) p → k ≤ places n → places n ≤ k
-    → p' ≡ with_sets (emptied n p.sets) p
-cleared_all n p p' k e h l = let q : k ≡ n / 1024 + n / 32 + 3 = omega arith in e ∙ rw q
+-- the laws by which the check proves the reads and the stores
+pub ruleset stores =
+    (word_read, word-stored, three-stored, add-stored, top_read, group_room, block_room, lowest_read, take-stored, cleared_none, cleared_more)

@@ -63,18 +63,6 @@ pub inner-label : (p : Peeling) (d : ℕ) → 3 ≤ d → label_in p d ≡ (d % 
 unfolding label_in
 inner-label p d h = rw (le-ltb d 3 h)
 
--- as the code reads it: k is the corner of the triangle with label 2
-module _ (p : Peeling) (d k : ℕ) (h : 3 ≤ d) (e : k ≡ p.apex (d / 3)) (low : p.apex (d / 3) < 3) where
-  label-by : label_in p d ≡ (d % 3 + 5 - k) % 3
-  unfolding tri
-  label-by = inner-label p d h ∙ ap (λ (x : ℕ). (d % 3 + 5 - x) % 3) (sym e)
-
-  pub label_low : d % 3 + 5 - k < 6 → (d % 3 + 5 - k - 3 ≡ label_in p d) × (d % 3 + 5 - k - 3 < 4)
-  label_low l = omega (arith, label-by)
-
-  pub label-high : 6 ≤ d % 3 + 5 - k → (d % 3 + 5 - k - 6 ≡ label_in p d) × (d % 3 + 5 - k - 6 < 4)
-  label-high l = omega (arith, label-by)
-
 pub rim-label : (p : Peeling) (d : ℕ) → d < 3 → label_in p d ≡ 3
 unfolding label_in
 rim-label p d h = rw (lt-ltb d 3 h)

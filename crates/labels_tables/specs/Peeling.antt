@@ -39,33 +39,6 @@ peeling_of t = record {
 abbrev pub peeling : List ℤ → Peeling
 peeling s = peeling_of (tables_of s)
 
--- ---- an entry as the code reads it: a number of a word
-
-module _ (t : Tables) (i w r : ℕ) where
-  pub turn_of : w ≡ t.op i → r ≡ field0 w → r ≡ (peeling_of t).turn i
-  unfolding peeling_of
-  turn_of e q = q ∙ ap field0 e
-
-  pub origin_of : w ≡ t.op i → r ≡ field1 w → r ≡ (peeling_of t).origin i
-  unfolding peeling_of
-  origin_of e q = q ∙ ap field1 e
-
-  pub degree_of : w ≡ t.head i → r ≡ field0 w → r ≡ (peeling_of t).degree i
-  unfolding peeling_of
-  degree_of e q = q ∙ ap field0 e
-
-  pub left_of : w ≡ t.head i → r ≡ field1 w → r ≡ (peeling_of t).left i
-  unfolding peeling_of
-  left_of e q = q ∙ ap field1 e
-
-  pub right_of : w ≡ t.head i → r ≡ field2 w → r ≡ (peeling_of t).right i
-  unfolding peeling_of
-  right_of e q = q ∙ ap field2 e
-
-  pub apex_of : w ≡ t.op (3 * i) → r ≡ field2 w → r ≡ (peeling_of t).apex i
-  unfolding peeling_of
-  apex_of e q = q ∙ ap field2 e
-
 -- ---- stores
 
 unfoldable pub set_apex : ℕ → ℕ → Peeling → Peeling
@@ -159,7 +132,7 @@ module _ (t : Tables) (k x w : ℕ) (e : w ≡ pack (field0 (t.op (3 * k))) (fie
     | no q ↦ rw (upd_other (3 * k) (3 * j) w t.op (omega (arith, q)), upd_other k j x (λ j. field2 (t.op (3 * j))) q)
   ])
 
-  peeling-apex : peeling_of (set_op (3 * k) w t) ≡ set_apex k x (peeling_of t)
+  pub peeling-apex : peeling_of (set_op (3 * k) w t) ≡ set_apex k x (peeling_of t)
   unfolding peeling_of set_op set_apex
   peeling-apex = λ i. record {
     turn = field-kept field0 (3 * k) w t.op apex-0 i;
@@ -173,7 +146,7 @@ module _ (t : Tables) (k x w : ℕ) (e : w ≡ pack (field0 (t.op (3 * k))) (fie
   }
 
 module _ (t : Tables) (v x l r w : ℕ) (e : w ≡ pack x l r 0) (hx : x < 65536) (hl : l < 65536) (hr : r < 65536) where
-  peeling_vertex : peeling_of (set_head v w t) ≡ set_vertex v x l r (peeling_of t)
+  pub peeling_vertex : peeling_of (set_head v w t) ≡ set_vertex v x l r (peeling_of t)
   unfolding peeling_of set_head set_vertex
   peeling_vertex = λ i. record {
     turn = λ d. field0 (t.op d);
@@ -185,16 +158,6 @@ module _ (t : Tables) (v x l r w : ℕ) (e : w ≡ pack x l r 0) (hx : x < 65536
     sets = t.count;
     order = λ k. t.mark (2 * k + 1);
   }
-
--- as the code stores them
-pub apex-stored : (t t' : Tables) (k x w a b v : ℕ) → w ≡ t.op (3 * k) → a ≡ field0 w → b ≡ field1 w → v ≡ pack a b x 0 → x < 65536
-    → t' ≡ set_op (3 * k) v t → peeling_of t' ≡ set_apex k x (peeling_of t)
-apex-stored t t' k x w a b v e ea eb ev small q =
-    ap peeling_of q ∙ peeling-apex t k x v (ev ∙ rw (ea, eb, e)) small
-
-pub vertex_stored : (t t' : Tables) (v x l r w : ℕ) → w ≡ pack x l r 0 → x < 65536 → l < 65536 → r < 65536 → t' ≡ set_head v w t
-    → peeling_of t' ≡ set_vertex v x l r (peeling_of t)
-vertex_stored t t' v x l r w e hx hl hr q = ap peeling_of q ∙ peeling_vertex t v x l r w e hx hl hr
 
 pub peeling-order : (t : Tables) (k x : ℕ) → peeling_of (set_mark (2 * k + 1) x t) ≡ set_order k x (peeling_of t)
 unfolding peeling_of set_mark set_order
@@ -273,3 +236,6 @@ module _ (p p' : Peeling) (v x k l r : ℕ) where
 
   pub right_stored : k ≡ p.degree v → l ≡ p.left v → p' ≡ set_vertex v k l x p → p' ≡ set_right v x p
   right_stored ek el q = q ∙ rw (ek, el) (only_right p v x)
+
+-- the laws by which the check proves the stores
+pub ruleset stores = (peeling-apex, peeling_vertex, degree-stored, left-stored, right_stored)

@@ -1,5 +1,5 @@
 // What scratch holds in the labels stage and after it, read and stored one entry at a time. Nothing outside knows which number of a word an entry is.
-#![tactic(auto)]
+#![tactic(auto, using(crate::specs::Peeling::stores), unfolding(crate::specs::Peeling::peeling_of))]
 
 ghost use Rattle.std.specs.Prelude.{◌≡◌, ◌+◌, ◌*◌, ◌≤◌, ◌<◌, ◌^◌, length};
 ghost use Rattle.definitions.specs.Mesh.{next, tri};
@@ -7,7 +7,7 @@ ghost use Rattle.scratch_tables.specs.Tables.{dart_in, vertex_in, tables_of};
 ghost use Rattle.labels_tables.specs.Peeling.{peeling_of, peeling, set_apex, set_vertex, set_degree, set_left, set_right};
 ghost use Rattle.labels_tables.specs.LabelledTables.{opposite_in, label_in, apex_dart};
 
-use scratch_tables::{dart_word, field0, field1, field2, next_dart, pack, vertex_word};
+use scratch_tables::{Column, dart_word, field, next_dart, pack, set_op, set_word, word};
 
 // of dart d: the next one round its origin, and its origin
 pub fn turn(s: &[i64], d: usize) -> usize
@@ -15,7 +15,7 @@ pub fn turn(s: &[i64], d: usize) -> usize
     ensures is { result ≡ (peeling s.now).turn d }
     ensures small { result < 65536 }
 {
-    field0(dart_word(s, d))
+    field::<0>(dart_word(s, d))
 }
 
 pub fn origin(s: &[i64], d: usize) -> usize
@@ -23,7 +23,7 @@ pub fn origin(s: &[i64], d: usize) -> usize
     ensures is { result ≡ (peeling s.now).origin d }
     ensures small { result < 65536 }
 {
-    field1(dart_word(s, d))
+    field::<1>(dart_word(s, d))
 }
 
 // the vertex that dart d leads to
@@ -36,6 +36,7 @@ pub fn tip(s: &[i64], d: usize) -> usize
 }
 
 // the dart of the opposite side
+#[tactic(auto, unfolding(crate::specs::LabelledTables::opposite_in))]
 pub fn opposite(s: &[i64], d: usize) -> usize
     requires { dart_in (length s.now) (next d) × (d < 2 ^ 63) }
     ensures is { result ≡ opposite_in (peeling s.now) d }
@@ -50,10 +51,11 @@ pub fn apex(s: &[i64], t: usize) -> usize
     ensures is { result ≡ (peeling s.now).apex t }
     ensures small { result < 65536 }
 {
-    field2(dart_word(s, 3 * t))
+    field::<2>(dart_word(s, 3 * t))
 }
 
 // the dart at that corner
+#[tactic(auto, unfolding(crate::specs::LabelledTables::apex_dart))]
 pub fn apex_dart(s: &[i64], t: usize) -> usize
     requires { dart_in (length s.now) (3 * t) × (t < 65536) }
     ensures { result ≡ apex_dart (peeling s.now) t }
@@ -62,6 +64,7 @@ pub fn apex_dart(s: &[i64], t: usize) -> usize
 }
 
 // the label of the dart's corner
+#[tactic(auto, unfolding(crate::specs::LabelledTables::label_in, definitions::specs::Mesh::tri))]
 pub fn label_of(s: &[i64], d: usize) -> usize
     requires { dart_in (length s.now) (3 * tri d) × (d < 65536) × (3 ≤ d → (peeling s.now).apex (tri d) < 3) }
     ensures is { result ≡ label_in (peeling s.now) d }
@@ -81,7 +84,7 @@ pub fn degree(s: &[i64], v: usize) -> usize
     ensures is { result ≡ (peeling s.now).degree v }
     ensures small { result < 65536 }
 {
-    field0(vertex_word(s, v))
+    field::<0>(word(s, Column::Head, v))
 }
 
 pub fn left_dart(s: &[i64], v: usize) -> usize
@@ -89,7 +92,7 @@ pub fn left_dart(s: &[i64], v: usize) -> usize
     ensures is { result ≡ (peeling s.now).left v }
     ensures small { result < 65536 }
 {
-    field1(vertex_word(s, v))
+    field::<1>(word(s, Column::Head, v))
 }
 
 pub fn right_dart(s: &[i64], v: usize) -> usize
@@ -97,7 +100,7 @@ pub fn right_dart(s: &[i64], v: usize) -> usize
     ensures is { result ≡ (peeling s.now).right v }
     ensures small { result < 65536 }
 {
-    field2(vertex_word(s, v))
+    field::<2>(word(s, Column::Head, v))
 }
 
 // the k-th removed vertex
@@ -106,7 +109,7 @@ pub fn removed_vertex(s: &[i64], k: usize) -> usize
     ensures is { result ≡ (peeling s.now).order k }
     ensures small { result < 2 ^ 63 }
 {
-    scratch_tables::order_word(s, k)
+    word(s, Column::OddMark, k)
 }
 
 // stores
@@ -115,16 +118,17 @@ pub fn set_apex(s: &mut [i64], t: usize, k: usize)
     ensures { peeling s.new ≡ set_apex t k (peeling s.old) }
 {
     let w = dart_word(s, 3 * t);
-    scratch_tables::set_op(s, 3 * t, pack(field0(w), field1(w), k, 0));
+    set_op(s, 3 * t, pack(field::<0>(w), field::<1>(w), k, 0));
 }
 
 pub fn set_vertex(s: &mut [i64], v: usize, degree: usize, left: usize, right: usize)
     requires { vertex_in (length s.old) v × (degree < 65536) × (left < 65536) × (right < 65536) }
     ensures { peeling s.new ≡ set_vertex v degree left right (peeling s.old) }
 {
-    scratch_tables::set_head(s, v, pack(degree, left, right, 0));
+    set_word(s, Column::Head, v, pack(degree, left, right, 0));
 }
 
+// One number of a vertex's word. Three functions, as the three that read: by a const parameter for the number's place they would lose their names.
 pub fn set_degree(s: &mut [i64], v: usize, x: usize)
     requires { vertex_in (length s.old) v × (x < 65536) }
     ensures { peeling s.new ≡ set_degree v x (peeling s.old) }

@@ -1,5 +1,7 @@
 -- The labels written from scratch, triangle by triangle. Assumes nothing.
-use Rattle.std.specs.Prelude.{ℕ, ◌+◌, ◌-◌, ◌*◌, ◌/◌, ◌%◌, ◌≤◌, ◌<◌, ◌≡◌, refl, List, length, get_or, set}
+use Prim.Native.Nat.{zero, suc}
+use borrow.Rule.Slice.PartMut.{put_mid}
+use Rattle.std.specs.Prelude.{ℕ, [], ◌∷◌, ◌+◌, ◌-◌, ◌*◌, ◌/◌, ◌%◌, ◌≤◌, ◌<◌, ◌≡◌, refl, List, length, get_or, set}
 use Rattle.std.proofs.Common.{sym, ap, ◌∙◌, get_or-set_same}
 use native.Mathlib.Omega.{arith}
 use Rattle.std.proofs.Math.Decide.{ℕ_discrete, dec_lt}
@@ -9,6 +11,7 @@ use Rattle.definitions.specs.Mesh.{tri}
 use Rattle.scratch_tables.specs.Tables.{dart_in}
 use Rattle.labels_tables.specs.Peeling.{Peeling}
 use Rattle.labels_tables.specs.LabelledTables.{label_in, inner-label}
+use Rattle.labels_write.specs.declared.TheConstants.{LABELS}
 
 -- the label of corner i of a triangle of which corner k has label 2
 unfoldable pub label_of_corner : ℕ → ℕ → ℕ
@@ -24,11 +27,30 @@ pub record Readable (p : Peeling) (words t : ℕ) : Type 0 where
 unfoldable pub with_triangle : ℕ → ℕ → List ℕ → List ℕ
 with_triangle k t ls = set (set (set ls (3 * t) (label_of_corner k 0)) (3 * t + 1) (label_of_corner k 1)) (3 * t + 2) (label_of_corner k 2)
 
--- its three stores, as the code makes them
-pub with_triangle_lem : (k t a b c : ℕ) (ls : List ℕ) (k₀ : ℕ) → k ≡ k₀ → a ≡ label_of_corner k 0 → b ≡ label_of_corner k 1 → c ≡ label_of_corner k 2
-    → set (set (set ls (3 * t) a) (3 * t + 1) b) (3 * t + 2) c ≡ with_triangle k₀ t ls
+-- the code's table has them, and three labels side by side are three stores
+row_is : (k : ℕ) → k < 3 → get_or LABELS k [] ≡ label_of_corner k 0 ∷ label_of_corner k 1 ∷ label_of_corner k 2 ∷ []
+unfolding label_of_corner
+row_is zero h = refl
+row_is (suc zero) h = refl
+row_is (suc (suc zero)) h = refl
+row_is (suc (suc (suc k))) h = absurd (omega arith)
+
+three_set : (i a b c : ℕ) (ls : List ℕ) → i + 3 ≤ length ls → put_mid i 3 ls (a ∷ b ∷ c ∷ []) ≡ set (set (set ls i a) (suc i) b) (suc (suc i)) c
+three_set zero a b c (x ∷ y ∷ z ∷ ls) h = refl
+three_set zero a b c [] h = absurd (omega arith)
+three_set zero a b c (x ∷ []) h = absurd (omega arith)
+three_set zero a b c (x ∷ y ∷ []) h = absurd (omega arith)
+three_set (suc i) a b c (x ∷ ls) h = ap (◌∷◌ x) (three_set i a b c ls (omega arith))
+three_set (suc i) a b c [] h = absurd (omega arith)
+
+-- as the code stores them: w is the length of the range
+pub with_triangle_lem : (k k₀ t w : ℕ) (ls ys : List ℕ) → k ≡ k₀ → k₀ < 3 → 3 * t + 3 ≤ length ls → w ≡ 3 → ys ≡ get_or LABELS k []
+    → put_mid (3 * t) w ls ys ≡ with_triangle k₀ t ls
 unfolding with_triangle
-with_triangle_lem k t a b c ls k₀ e ea eb ec = rw (ea, eb, ec, e)
+with_triangle_lem k k₀ t w ls ys e small room ew ey =
+    let i : 3 * t + 1 ≡ suc (3 * t) = omega arith in
+    let j : 3 * t + 2 ≡ suc (suc (3 * t)) = omega arith in
+    rw (i, j, ew, ey, e, row_is k₀ small) (three_set (3 * t) _ _ _ ls room)
 
 module _ (k t : ℕ) (ls : List ℕ) (room : 3 * t + 3 ≤ length ls) where
   abbrev one : List ℕ
@@ -36,11 +58,6 @@ module _ (k t : ℕ) (ls : List ℕ) (room : 3 * t + 3 ≤ length ls) where
 
   abbrev two : List ℕ
   two = set one (3 * t + 1) (label_of_corner k 1)
-
-  pub triangle_long : length (with_triangle k t ls) ≡ length ls
-  unfolding with_triangle
-  triangle_long =
-      length-set two (3 * t + 2) (label_of_corner k 2) ∙ length-set one (3 * t + 1) (label_of_corner k 1) ∙ length-set ls (3 * t) (label_of_corner k 0)
 
   -- what stands before stays, and these are the three
   triangle_before : (j : ℕ) → j < 3 * t → get_or (with_triangle k t ls) j 0 ≡ get_or ls j 0
@@ -67,34 +84,23 @@ module _ (k t : ℕ) (ls : List ℕ) (room : 3 * t + 3 ≤ length ls) where
             ]
       ]
 
--- ---- the loop: the labels of t triangles are written, ls is the lent slice
+-- ---- the loop: the labels of t triangles are written
 
-pub record Writing (p : Peeling) (ls ls' : List ℕ) (t : ℕ) : Type 0 where
-  pub long : length ls' ≡ length ls
-  pub low : 3 * t ≤ length ls + 2
-  pub done : (k : ℕ) → k < 3 * t → k < length ls → get_or ls' k 0 ≡ label_in p (k + 3)
+abbrev pub Writing : Peeling → List ℕ → ℕ → Type 0
+Writing p ls t = (k : ℕ) → k < 3 * t → get_or ls k 0 ≡ label_in p (k + 3)
 
-pub writing_none : (p : Peeling) (ls : List ℕ) → Writing p ls ls 0
-writing_none p ls = record { long = refl; low = omega arith; done = λ k h l. absurd (omega arith) }
-
-pub writing_more : (p : Peeling) (ls ls' ls'' : List ℕ) (t : ℕ) → length ls % 3 ≡ 0 → 3 * t < length ls
-    → ls'' ≡ with_triangle (p.apex (t + 1)) t ls' → Writing p ls ls' t → Writing p ls ls'' (t + 1)
+pub writing_more : (p : Peeling) (ls ls' : List ℕ) (t : ℕ) → 3 * t + 3 ≤ length ls → ls' ≡ with_triangle (p.apex (t + 1)) t ls → Writing p ls t
+    → Writing p ls' (t + 1)
 unfolding label_of_corner tri
-writing_more p ls ls' ls'' t whole h e w =
+writing_more p ls ls' t room e w k l =
     let a = p.apex (t + 1) in
-    let room : 3 * t + 3 ≤ length ls' = omega (arith, w.long) in
-    rw e record {
-      long = triangle_long a t ls' room ∙ w.long;
-      low = omega arith;
-      done = λ k l m.
-          elim (dec_lt k (3 * t)) [
-            | yes q ↦ triangle_before a t ls' room k q ∙ w.done k q m
-            | no q ↦
-                let i = k - 3 * t in
-                let here : k ≡ 3 * t + i = omega (arith, q) in
-                let at : (k + 3) / 3 ≡ t + 1 = omega (arith, q) in
-                let corner : (k + 3) % 3 ≡ i = omega (arith, q) in
-                ap (λ (j : ℕ). get_or (with_triangle a t ls') j 0) here ∙ triangle_at a t ls' room i (omega (arith, q))
-                ∙ sym (inner-label p (k + 3) (omega arith) ∙ rw (at, corner))
-          ];
-    }
+    rw e (elim (dec_lt k (3 * t)) [
+      | yes q ↦ triangle_before a t ls room k q ∙ w k q
+      | no q ↦
+          let i = k - 3 * t in
+          let here : k ≡ 3 * t + i = omega (arith, q) in
+          let at : (k + 3) / 3 ≡ t + 1 = omega (arith, q) in
+          let corner : (k + 3) % 3 ≡ i = omega (arith, q) in
+          ap (λ (j : ℕ). get_or (with_triangle a t ls) j 0) here ∙ triangle_at a t ls room i (omega (arith, q))
+          ∙ sym (inner-label p (k + 3) (omega arith) ∙ rw (at, corner))
+    ])

@@ -1,10 +1,9 @@
 // What every call on lent slices asks first: row 1, the number of vertices, and row 2, the lengths of the slices. The numbers stand here once.
 #![tactic(auto)]
 
-ghost use Rattle.std.specs.Prelude.{◌≡◌, [], ◌∷◌, length};
-ghost use Rattle.definitions.specs.Mesh.{triangles_length, labels_length, weights_length, coordinates_length, scratch_length, points_length};
-ghost use Rattle.definitions.specs.Refusals.{slice, most_vertices, row1, row2};
-ghost use Rattle.lent_slices.specs.Lengths.{InSize, slices_of, first_rows};
+ghost use Rattle.std.specs.Prelude.{◌≡◌};
+ghost use Rattle.definitions.specs.Refusals.{most_vertices, row1};
+ghost use Rattle.lent_slices.specs.Lengths.{InSize, length_of, slices_of, row_in, first_rows};
 
 // the most vertices that a shell may have
 const MOST_VERTICES: usize = 4096;
@@ -12,175 +11,59 @@ const MOST_VERTICES: usize = 4096;
 // words of scratch for each vertex
 pub const SCRATCH_WORDS: usize = 10;
 
+// Rows 1 and 2: too few vertices, or too many; and a slice that is not as long as they want it.
+#[derive(Clone, Copy, Debug, PartialEq, Eq)]
+pub enum SizeRefusal {
+    VertexCount,
+    SliceLength,
+}
+
+// What a lent slice holds.
+#[derive(Clone, Copy, Debug, PartialEq, Eq)]
+pub enum Contents {
+    Triangles,
+    Labels,
+    Weights,
+    Coordinates,
+    Scratch,
+    Points,
+}
+
+impl Contents {
+    // the length that document 01 fixes for n vertices
+    fn length(self, n: usize) -> usize
+        requires { InSize n }
+        ensures { result ≡ length_of self n }
+    {
+        match self {
+            Contents::Triangles => 3 * (2 * n - 4),
+            Contents::Labels => 3 * (2 * n - 5),
+            Contents::Weights => 2 * n - 5,
+            Contents::Coordinates => 3 * n,
+            Contents::Scratch => SCRATCH_WORDS * n,
+            Contents::Points => 2 * n,
+        }
+    }
+}
+
 // row 1: too few vertices, or too many
 fn other_size(n: usize) -> bool
     ensures { result ≡ row1 most_vertices n }
 {
-    if n < 3 {
-        return true;
+    n < 3 || n > MOST_VERTICES
+}
+
+// Rows 1 and 2 of a call, from the contents and the lengths of its slices.
+pub fn check_sizes(n: usize, lent: &[(Contents, usize)]) -> Result<(), SizeRefusal>
+    ensures { row_in result ≡ first_rows n (slices_of n lent.now) }
+{
+    if other_size(n) {
+        return Err(SizeRefusal::VertexCount);
     }
-    n > MOST_VERTICES
-}
-
-// the lengths that document 01 fixes
-fn triangles_length(n: usize) -> usize
-    requires { InSize n }
-    ensures { result ≡ triangles_length n }
-{
-    3 * (2 * n - 4)
-}
-
-fn labels_length(n: usize) -> usize
-    requires { InSize n }
-    ensures { result ≡ labels_length n }
-{
-    3 * (2 * n - 5)
-}
-
-fn weights_length(n: usize) -> usize
-    requires { InSize n }
-    ensures { result ≡ weights_length n }
-{
-    2 * n - 5
-}
-
-fn coordinates_length(n: usize) -> usize
-    requires { InSize n }
-    ensures { result ≡ coordinates_length n }
-{
-    3 * n
-}
-
-fn scratch_length(n: usize) -> usize
-    requires { InSize n }
-    ensures { result ≡ scratch_length n }
-{
-    SCRATCH_WORDS * n
-}
-
-fn points_length(n: usize) -> usize
-    requires { InSize n }
-    ensures { result ≡ points_length n }
-{
-    2 * n
-}
-
-// row 2: one of the lengths is not the one that is wanted
-fn other_length(has: &[usize], wanted: &[usize]) -> bool
-    requires { length has.now ≡ length wanted.now }
-    ensures { result ≡ row2 (slices_of has.now wanted.now) }
-{
-    let mut i = 0;
-    while i < has.len() {
-        if has[i] != wanted[i] {
-            return true;
+    for &(contents, length) in lent {
+        if length != contents.length(n) {
+            return Err(SizeRefusal::SliceLength);
         }
-        i += 1;
     }
-    false
-}
-
-// Rows 1 and 2 of the mesh check, from the lengths of its slices: the number of the one that finds something, or 0.
-pub fn mesh_rows(n: usize, triangles: usize, scratch: usize) -> u32
-    ensures { result ≡ first_rows n (slice triangles (triangles_length n) ∷ slice scratch (scratch_length n) ∷ []) }
-{
-    if other_size(n) {
-        return 1;
-    }
-    let has = [triangles, scratch];
-    let wanted = [triangles_length(n), scratch_length(n)];
-    if other_length(&has, &wanted) {
-        return 2;
-    }
-    0
-}
-
-// the same for the labels call
-pub fn labels_rows(n: usize, triangles: usize, labels: usize, scratch: usize) -> u32
-    ensures { result ≡ first_rows n (slice triangles (triangles_length n) ∷ slice scratch (scratch_length n)
-        ∷ slice labels (labels_length n) ∷ []) }
-{
-    if other_size(n) {
-        return 1;
-    }
-    let has = [triangles, scratch, labels];
-    let wanted = [triangles_length(n), scratch_length(n), labels_length(n)];
-    if other_length(&has, &wanted) {
-        return 2;
-    }
-    0
-}
-
-// the same for the maps and for repair
-pub fn map_rows(
-    n: usize,
-    triangles: usize,
-    weights: usize,
-    coordinates: usize,
-    scratch: usize,
-) -> u32
-    ensures { result ≡ first_rows n (slice triangles (triangles_length n) ∷ slice scratch (scratch_length n) ∷ slice weights (weights_length n)
-        ∷ slice coordinates (coordinates_length n) ∷ []) }
-{
-    if other_size(n) {
-        return 1;
-    }
-    let has = [triangles, scratch, weights, coordinates];
-    let wanted = [
-        triangles_length(n),
-        scratch_length(n),
-        weights_length(n),
-        coordinates_length(n),
-    ];
-    if other_length(&has, &wanted) {
-        return 2;
-    }
-    0
-}
-
-// the same for the range: two lists of weights, and two of coordinates
-pub fn range_rows(
-    n: usize,
-    triangles: usize,
-    lows: usize,
-    highs: usize,
-    lowest: usize,
-    highest: usize,
-    scratch: usize,
-) -> u32
-    ensures { result ≡ first_rows n (slice triangles (triangles_length n) ∷ slice scratch (scratch_length n)
-        ∷ slice lows (weights_length n) ∷ slice highs (weights_length n)
-        ∷ slice lowest (coordinates_length n) ∷ slice highest (coordinates_length n) ∷ []) }
-{
-    if other_size(n) {
-        return 1;
-    }
-    let has = [triangles, scratch, lows, highs, lowest, highest];
-    let wanted = [
-        triangles_length(n),
-        scratch_length(n),
-        weights_length(n),
-        weights_length(n),
-        coordinates_length(n),
-        coordinates_length(n),
-    ];
-    if other_length(&has, &wanted) {
-        return 2;
-    }
-    0
-}
-
-// the same for snapping
-pub fn snap_rows(n: usize, points: usize, coordinates: usize) -> u32
-    ensures { result ≡ first_rows n (slice points (points_length n) ∷ slice coordinates (coordinates_length n) ∷ []) }
-{
-    if other_size(n) {
-        return 1;
-    }
-    let has = [points, coordinates];
-    let wanted = [points_length(n), coordinates_length(n)];
-    if other_length(&has, &wanted) {
-        return 2;
-    }
-    0
+    Ok(())
 }

@@ -35,17 +35,16 @@ pub record Buffering (xs s₀ s : List ℤ) (i : ℕ) : Type 0 where
 pub keeping_none : (xs s₀ : List ℤ) → Buffering xs s₀ s₀ 0
 keeping_none xs s₀ = record { long = refl; same = refl; entries = λ j h. absurd (omega arith) }
 
-pub keeping_more : (xs s₀ s s' : List ℤ) (i k : ℕ) (x : ℤ) → Buffering xs s₀ s i → k ≡ past_darts (length s₀) + i → k < length s →
-    s' ≡ set s k x →
-    x ≡ get_or xs i (pos 0) → Buffering xs s₀ s' (i + 1)
-keeping_more xs s₀ s s' i k x K e h r q = rw r (record {
+pub keeping_more : (xs s₀ s : List ℤ) (i k : ℕ) (x : ℤ) → Buffering xs s₀ s i → k ≡ past_darts (length s₀) + i → k < length s → x ≡ get_or xs i (pos 0) →
+    Buffering xs s₀ (set s k x) (i + 1)
+keeping_more xs s₀ s i k x K e h q = record {
   long = length-set s k x ∙ K.long;
   same = op_same s k x (omega (arith, e, K.long)) ∙ K.same;
   entries = λ j b. elim (ℕ_discrete j i) [
     | yes f ↦ rw (f, ← e) (get_or-set_same s k x (pos 0) h ∙ q)
     | no f ↦ get_or-set_other s k (past_darts (length s₀) + j) x (pos 0) (omega (arith, e, f)) ∙ K.entries j (omega (arith, f))
   ];
-})
+}
 
 pub keeping_all : (xs s₀ s : List ℤ) (i : ℕ) → length xs ≤ i → Buffering xs s₀ s i → Buffered xs s
 keeping_all xs s₀ s i h K = record { entries = λ j b. rw K.long (K.entries j (omega arith)) }

@@ -1,7 +1,7 @@
 -- The backward map from the tables of the labels stage, in the order of the code: the definition's eight cases, and, where rows 11 and 12 find nothing,
 -- document 01's weights. Assumes nothing.
 -- The direction of a side shows in one label: that of the triangle across, at the tip of the side's dart. The outer triangle's corners have label 3.
-use Rattle.std.specs.Prelude.{ℕ, ◌+◌, ◌-◌, ◌*◌, ◌/◌, ◌≤◌, ◌<◌, ◌≡◌, refl, Bool, true, false, List, map, eqb, get_or, ℤ, pos, ◌-ℤ◌}
+use Rattle.std.specs.Prelude.{ℕ, ◌+◌, ◌-◌, ◌*◌, ◌/◌, ◌≤◌, ◌<◌, ◌≡◌, refl, Bool, false, List, map, eqb, get_or, ℤ, pos}
 use Rattle.std.proofs.Common.{sym, ◌∙◌, eq-eqb, ne_eqb}
 use Rattle.std.proofs.Math.Path.{ap}
 use Rattle.std.proofs.Math.Logic.{inl, inr}
@@ -25,43 +25,6 @@ use Rattle.theory_inverse.specs.Directions.{runs_is, tip-labels, inner_way, case
 use Rattle.scratch_tables.specs.Tables.{dart_in}
 use Rattle.labels_tables.specs.Peeling.{Peeling, peeling}
 use Rattle.labels_tables.specs.LabelledTables.{Labelled, Peeled, label_in, apex_dart, apex_dart_is, whole, few, opp_in, dart_room, label_in_is, outer-label}
-
--- the case that three answers choose, in the order of the code
-module _ (b : ℕ → ℕ → ℤ) (N : ℤ) (p q r : ℕ) (pq qr rp : Bool) (w : ℤ) where
-  pub case-TTT : (t : ℤ) → t ≡ N → w ≡ t -ℤ b 0 q -ℤ b 1 r -ℤ b 2 p → pq ≡ true → qr ≡ true → rp ≡ true → w ≡ eight_cases b N p q r pq qr rp
-  unfolding eight_cases
-  case-TTT t n v e f g = rw (v, n, e, f, g)
-
-  pub case-TTF : w ≡ b 0 p -ℤ b 0 q → pq ≡ true → qr ≡ true → rp ≡ false → w ≡ eight_cases b N p q r pq qr rp
-  unfolding eight_cases
-  case-TTF v e f g = rw (v, e, f, g)
-
-  pub case-TFT : w ≡ b 2 r -ℤ b 2 p → pq ≡ true → qr ≡ false → rp ≡ true → w ≡ eight_cases b N p q r pq qr rp
-  unfolding eight_cases
-  case-TFT v e f g = rw (v, e, f, g)
-
-  pub case-TFF : w ≡ b 0 p -ℤ b 0 r → pq ≡ true → qr ≡ false → rp ≡ false → w ≡ eight_cases b N p q r pq qr rp
-  unfolding eight_cases
-  case-TFF v e f g = rw (v, e, f, g)
-
-  pub case-FTT : w ≡ b 1 q -ℤ b 1 r → pq ≡ false → qr ≡ true → rp ≡ true → w ≡ eight_cases b N p q r pq qr rp
-  unfolding eight_cases
-  case-FTT v e f g = rw (v, e, f, g)
-
-  pub case-FTF : w ≡ b 1 q -ℤ b 1 p → pq ≡ false → qr ≡ true → rp ≡ false → w ≡ eight_cases b N p q r pq qr rp
-  unfolding eight_cases
-  case-FTF v e f g = rw (v, e, f, g)
-
-  pub case-FFT : w ≡ b 2 r -ℤ b 2 q → pq ≡ false → qr ≡ false → rp ≡ true → w ≡ eight_cases b N p q r pq qr rp
-  unfolding eight_cases
-  case-FFT v e f g = rw (v, e, f, g)
-
-  pub case-FFF : (t : ℤ) → t ≡ N → w ≡ t -ℤ b 0 r -ℤ b 1 p -ℤ b 2 q → pq ≡ false → qr ≡ false → rp ≡ false → w ≡ eight_cases b N p q r pq qr rp
-  unfolding eight_cases
-  case-FFF t n v e f g = rw (v, n, e, f, g)
-
--- `search (cases, values)` proves what any of them gives
-pub ruleset cases = (case-TTT, case-TTF, case-TFT, case-TFF, case-FTT, case-FTF, case-FFT, case-FFF)
 
 -- the side before dart d runs to the origin of d, where its triangle has label c
 unfoldable pub runs_to : Peeling → ℕ → ℕ → Bool

@@ -14,7 +14,8 @@ ghost use Rattle.labels_tables.specs.LabelledTables.{Labelled};
 ghost use Rattle.maps_backward.specs.Weights.{LabelledDrawing, InnerTriangle, runs_to, weight_of};
 ghost use Rattle.maps_backward.specs.Buffer.{Buffered};
 
-use maps_limits::coordinate_at;
+use maps_limits::{LIMIT, coordinate_at};
+use scratch_tables::{Column, column_start};
 
 // The side before dart d runs to the origin of d, where its triangle has label c: the triangle across, that of the next dart round, has the same label
 // there. (A rim side counts as running the other way: the outer triangle has no labels.)
@@ -26,16 +27,16 @@ fn runs_to(scratch: &[i64], d: usize, c: usize) -> bool
 }
 
 // coordinate c of vertex i, less that of vertex j
+#[tactic(auto, using(std::proofs::lemmas::Int::ints, maps_limits::specs::Limits::coordinate_parts))]
 fn difference(coordinates: &[i64], c: usize, i: usize, j: usize) -> i64
     requires { (3 * i + c < length coordinates.now) × (3 * j + c < length coordinates.now) × (row10 coordinates.now ≡ false) }
     ensures { result ≡ coordinate coordinates.now c i -ℤ coordinate coordinates.now c j }
 {
-    let from = coordinate_at(coordinates, c, i);
-    let to = coordinate_at(coordinates, c, j);
-    int64::minus(from, to)
+    coordinate_at(coordinates, c, i) - coordinate_at(coordinates, c, j)
 }
 
 // N, less coordinate 0 of vertex i, coordinate 1 of vertex j and coordinate 2 of vertex k
+#[tactic(auto, using(std::proofs::lemmas::Int::ints, maps_limits::specs::Limits::coordinate_parts))]
 fn circle(coordinates: &[i64], total: i64, i: usize, j: usize, k: usize) -> i64
     requires { (3 * i + 2 < length coordinates.now) × (3 * j + 2 < length coordinates.now) × (3 * k + 2 < length coordinates.now)
         × (nat_abs total ≤ limit) × (row10 coordinates.now ≡ false) }
@@ -45,10 +46,11 @@ fn circle(coordinates: &[i64], total: i64, i: usize, j: usize, k: usize) -> i64
     let x = coordinate_at(coordinates, 0, i);
     let y = coordinate_at(coordinates, 1, j);
     let z = coordinate_at(coordinates, 2, k);
-    int64::minus(int64::minus(int64::minus(total, x), y), z)
+    total - x - y - z
 }
 
 // The eight cases. The corners with labels 0, 1, 2 are at the vertices p, q, r; pq tells whether the side of p and q runs from p to q, and so on.
+#[tactic(auto, using(std::proofs::lemmas::Int::ints), unfolding(definitions::specs::Directions::eight_cases))]
 fn eight_cases(
     coordinates: &[i64],
     total: i64,
@@ -63,34 +65,15 @@ fn eight_cases(
         × (nat_abs total ≤ limit) × (row10 coordinates.now ≡ false) }
     ensures { result ≡ eight_cases (coordinate coordinates.now) total p q r pq qr rp }
 {
-    if pq {
-        if qr {
-            if rp {
-                circle(coordinates, total, q, r, p)
-            } else {
-                difference(coordinates, 0, p, q)
-            }
-        } else {
-            if rp {
-                difference(coordinates, 2, r, p)
-            } else {
-                difference(coordinates, 0, p, r)
-            }
-        }
-    } else {
-        if qr {
-            if rp {
-                difference(coordinates, 1, q, r)
-            } else {
-                difference(coordinates, 1, q, p)
-            }
-        } else {
-            if rp {
-                difference(coordinates, 2, r, q)
-            } else {
-                circle(coordinates, total, r, p, q)
-            }
-        }
+    match (pq, qr, rp) {
+        (false, false, false) => circle(coordinates, total, r, p, q),
+        (false, false, true) => difference(coordinates, 2, r, q),
+        (false, true, false) => difference(coordinates, 1, q, p),
+        (false, true, true) => difference(coordinates, 1, q, r),
+        (true, false, false) => difference(coordinates, 0, p, r),
+        (true, false, true) => difference(coordinates, 2, r, p),
+        (true, true, false) => difference(coordinates, 0, p, q),
+        (true, true, true) => circle(coordinates, total, q, r, p),
     }
 }
 
@@ -120,31 +103,27 @@ pub fn weights_past_limit(n: usize, coordinates: &[i64], scratch: &mut [i64]) ->
     ensures kept { result ≡ false → (ts ls : List ℕ) → LabelledDrawing n ts ls coordinates.now scratch.old →
         Buffered (backward ts ls coordinates.now) scratch.new }
 {
-    let first = scratch_tables::past_darts(scratch);
+    let first = column_start(scratch, Column::Head);
     let total = maps_limits::total_of(coordinates, scratch);
-    let mut sum: usize = 0;
-    let mut i = 0;
-    while i < 2 * n - 5 {
+    let mut sum = 0;
+    for i in 0..2 * n - 5 {
         let w = weight_of(coordinates, scratch, total, i + 1);
-        sum += int64::magnitude(w);
-        if sum > maps_limits::LIMIT {
+        sum += w.unsigned_abs();
+        if sum > LIMIT {
             return true;
         }
-        int64::put(scratch, first + i, w);
-        i += 1;
+        scratch[first + i] = w;
     }
     false
 }
 
-// The weights kept in scratch, written.
+// The weights kept in scratch, written. One by one: `copy_from_slice` calls C's memcpy, whose first call takes more stack than a call of ours may.
 pub fn write_weights(weights: &mut [i64], scratch: &[i64])
     requires { past_darts (length scratch.now) + length weights.old ≤ length scratch.now }
     ensures { (ws : List ℤ) → Buffered ws scratch.now → length weights.old ≡ length ws → weights.new ≡ ws }
 {
-    let first = scratch_tables::past_darts(scratch);
-    let mut i = 0;
-    while i < weights.len() {
-        int64::put(weights, i, int64::get(scratch, first + i));
-        i += 1;
+    let first = column_start(scratch, Column::Head);
+    for i in 0..weights.len() {
+        weights[i] = scratch[first + i];
     }
 }

@@ -99,7 +99,8 @@ module _ (n outer_place : ℕ) (ts : List ℕ) (bs ws scratch : List ℤ) where
   slices_b = slice (length bs) (coordinates_length n) ∷ slice (length ws) (weights_length n) ∷ []
 
   abbrev own_b : List Row
-  own_b = row 10 (λ _. row10 bs) ∷ row 11 (λ _. row11 mesh_b bs) ∷ row 12 (λ _. row12 n mesh_b bs) ∷ row 9 (λ _. row9 (backward mesh_b (labels n mesh_b) bs)) ∷ []
+  own_b =
+      row 10 (λ _. row10 bs) ∷ row 11 (λ _. row11 mesh_b bs) ∷ row 12 (λ _. row12 n mesh_b bs) ∷ row 9 (λ _. row9 (backward mesh_b (labels n mesh_b) bs)) ∷ []
 
   abbrev asked_b : Option Refusal
   asked_b = call_refusal n outer_place ts scratch slices_b own_b

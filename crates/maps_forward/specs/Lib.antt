@@ -1,2 +1,2 @@
--- One iteration of each loop of the forward map, in the shape of the code.
+-- What each step of the forward map reads and leaves, in the shape of the code, and what its calls ask.
 pub mod LoopLaws

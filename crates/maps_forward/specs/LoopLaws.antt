@@ -1,9 +1,8 @@
--- One iteration of each loop of the forward map, in the shape of the code; and stores, reads and additions as the code makes them. Assumes nothing.
-use Rattle.std.specs.Prelude.{ℕ, zero, suc, ◌+◌, ◌-◌, ◌*◌, ◌/◌, ◌≤◌, ◌<◌, ◌^◌, ◌≡◌, refl, ◌≢◌, false, List, [], ◌∷◌, map, get_or, set, ℤ, pos, nat_abs, ◌-ℤ◌}
-use Rattle.std.proofs.Common.{sym, ◌∙◌, subst, arith, add-one}
-use Rattle.std.proofs.Math.Path.{ap, ap₂}
+-- What each step of the forward map reads and leaves, in the shape of the code, and what its calls ask. Assumes nothing.
+use Rattle.std.specs.Prelude.{ℕ, zero, suc, ◌+◌, ◌-◌, ◌*◌, ◌/◌, ◌≤◌, ◌<◌, ◌^◌, ◌≡◌, refl, ◌≢◌, false, List, [], ◌∷◌, map, get_or, set, ℤ, pos, nat_abs}
+use Rattle.std.proofs.Common.{sym, ◌∙◌, subst, arith}
+use Rattle.std.proofs.Math.Path.{ap}
 use Rattle.std.proofs.Math.ListN.{length}
-use Rattle.std.proofs.Math.IntN.{◌+ℤ◌}
 use Rattle.definitions.specs.Mesh.{triangles_length, weights_length, coordinates_length, tri, next, prev, org}
 use Rattle.definitions.specs.Forward.{weight, forward}
 use Rattle.definitions.specs.Backward.{coordinate}
@@ -64,19 +63,8 @@ pub weight_in_lem : {n g : ℕ} → InnerDart n g → 1 ≤ g / 3
 unfolding tri
 weight_in_lem I = I.inner
 
--- ---- single words
+-- ---- the first two coordinates of a vertex
 
-module _ (c i d j : ℕ) (s s' : List ℤ) where
-  pub copied : (x : ℤ) → x ≡ get_or s (word_index d j) (pos 0) → s' ≡ set s (word_index c i) x → s' ≡ copy (word_index c i) (word_index d j) s
-  unfolding copy
-  copied x e q = q ∙ ap (set s (word_index c i)) e
-
-  pub added : (x y z : ℤ) → x ≡ get_or s (word_index c i) (pos 0) → y ≡ get_or s (word_index d j) (pos 0) → z ≡ x +ℤ y → s' ≡ set s (word_index c i) z →
-      s' ≡ add (word_index c i) (word_index d j) s
-  unfolding add
-  added x y z e f q r = r ∙ ap (set s (word_index c i)) (q ∙ ap₂ ◌+ℤ◌ e f)
-
--- the first two coordinates of a vertex
 pub first-at : (s : List ℤ) (v : ℕ) → get_or s (3 * v) (pos 0) ≡ coordinate s 0 v
 unfolding coordinate
 first-at s v = let e : 3 * v ≡ 3 * v + 0 = omega arith in ap (λ (i : ℕ). get_or s i (pos 0)) e
@@ -84,10 +72,6 @@ first-at s v = let e : 3 * v ≡ 3 * v + 0 = omega arith in ap (λ (i : ℕ). ge
 pub second_at : (s : List ℤ) (v : ℕ) → get_or s (3 * v + 1) (pos 0) ≡ coordinate s 1 v
 unfolding coordinate
 second_at s v = refl
-
-pub third_written : (s s' : List ℤ) (v : ℕ) (N z : ℤ) → z ≡ N -ℤ get_or s (3 * v) (pos 0) -ℤ get_or s (3 * v + 1) (pos 0) → s' ≡ set s (3 * v + 2) z →
-    s' ≡ set s (3 * v + 2) (N -ℤ coordinate s 0 v -ℤ coordinate s 1 v)
-third_written s s' v N z e q = rw (← first-at s v, ← second_at s v, ← e) q
 
 -- weights stand from triangle 1 on
 inner-weight : (ws : List ℤ) (t : ℕ) → 0 < t → get_or ws (t - 1) (pos 0) ≡ weight ws t
@@ -110,26 +94,12 @@ pub record FanAhead (ws bs s : List ℤ) (stop g : ℕ) : Type 0 where
   pub turns : Turns n (peeling s) stop g gs
   pub short : length gs ≤ length s
 
--- other coordinates, as many
-pub fan-kept : {ws bs s : List ℤ} {stop g : ℕ} (bs' : List ℤ) → FanAhead ws bs s stop g → length bs' ≡ length bs → FanAhead ws bs' s stop g
-fan-kept bs' A e = record {
-  n = A.n;
-  lent = record { readable = A.lent.readable; weights = A.lent.weights; coordinates = e ∙ A.lent.coordinates };
-  gs = A.gs;
-  turns = A.turns;
-  short = A.short;
-}
-
 pub record FanLoop (ws s : List ℤ) (stop : ℕ) (end bs : List ℤ) (g q : ℕ) : Type 0 where
   pub ahead : FanAhead ws bs s stop g
   pub previous : q ≡ prev g
   pub rest : stores (peeling s).origin ws ahead.gs bs ≡ end
 
 module _ {n : ℕ} {t : Peeling} {stop : ℕ} where
-  first_inner : {g : ℕ} {gs : List ℕ} → Turns n t stop g gs → InnerDart n g
-  first_inner (stops i e) = i
-  first_inner (goes i e w) = i
-
   -- its end, or the rest of it
   stopped : {g : ℕ} {gs : List ℕ} → Turns n t stop g gs → prev g ≡ stop → gs ≡ g ∷ []
   stopped (stops i e) h = refl
@@ -140,17 +110,11 @@ module _ {n : ℕ} {t : Peeling} {stop : ℕ} where
   turned g' (stops i e) h q = absurd (h e)
   turned g' (goes {gs = gs} i e w) h q = (gs, refl, rw q w)
 
-pub fan-first : {ws bs s : List ℤ} {stop g : ℕ} (A : FanAhead ws bs s stop g) → InnerDart A.n g
-fan-first A = first_inner A.turns
-
 pub fan-start : (ws bs s : List ℤ) (stop g q : ℕ) → FanAhead ws bs s stop g → q ≡ prev g →
     FanLoop ws s stop (stores (peeling s).origin ws (fan_from (peeling s) stop (length s) g) bs) bs g q
 fan-start ws bs s stop g q A e = record { ahead = A; previous = e; rest = rw (fan_from_is (length s) A.turns A.short) }
 
 module _ (ws s : List ℤ) (stop : ℕ) (end bs : List ℤ) (g q : ℕ) (L : FanLoop ws s stop end bs g q) where
-  pub fan-dart : ((n : ℕ) × Lent n ws bs s × InnerDart n g) × (q ≡ prev g)
-  fan-dart = ((L.ahead.n, L.ahead.lent, fan-first L.ahead), L.previous)
-
   pub fan-stop : (bs' : List ℤ) → q ≡ stop → bs' ≡ store_weight (peeling s).origin ws g bs → bs' ≡ end
   unfolding stores
   fan-stop bs' e r = r ∙ rw (stopped L.ahead.turns (sym L.previous ∙ e)) at L.rest
@@ -212,17 +176,7 @@ module _ (s ws : List ℤ) (v left right q u r : ℕ) (el : left ≡ (peeling s)
   unfolding accumulate
   accumulate-made bs₂ e₂ = rw (e₂, left-made, eo, er)
 
--- its fan
-pub fan_ahead : (n : ℕ) (ws bs s : List ℤ) (v left right : ℕ) → Lent n ws bs s → Around n (length s) (peeling s) v → left ≡ (peeling s).left v →
-    right ≡ (peeling s).right v → FanAhead ws bs s right left
-fan_ahead n ws bs s v left right L A el er = record { n = n; lent = L; gs = A.gs; turns = rw (el, er) A.fan; short = A.short }
-
--- ---- v0 and v1, and a vertex that comes back
-
-pub with_corners-made : (s s₁ s₂ s₃ : List ℤ) (v0 v1 : ℕ) → s₁ ≡ set s (word_index 1 v0) (pos 0) → s₂ ≡ set s₁ (3 * v1) (pos 0) →
-    s₃ ≡ copy (word_index 0 v0) (word_index 1 v1) s₂ → s₃ ≡ with_corners v0 v1 s
-unfolding with_corners
-with_corners-made s s₁ s₂ s₃ v0 v1 i j k = let e : 3 * v1 ≡ word_index 0 v1 = omega arith in rw (k, j, i, ← e)
+-- ---- a vertex that comes back
 
 module _ (s : List ℤ) (v left right l r : ℕ) (el : left ≡ (peeling s).left v) (er : right ≡ (peeling s).right v)
     (et : l ≡ (peeling s).origin (next left)) (eo : r ≡ (peeling s).origin right) (bs : List ℤ) where
@@ -240,52 +194,6 @@ module _ (s : List ℤ) (v left right l r : ℕ) (el : left ≡ (peeling s).left
     pub propagate-made : (bs₂ : List ℤ) → bs₂ ≡ add (word_index 0 v) (word_index 0 r) bs₁ → bs₂ ≡ propagate (peeling s) v bs
     unfolding propagate
     propagate-made bs₂ e₂ = rw (e₂, b1_made, eo, er)
-
--- ---- the loops over all vertices: one more
-
-pub accumulate_all-next : (fuel : ℕ) (t : Peeling) (ws : List ℤ) (k v : ℕ) (s₀ s s' : List ℤ) → s ≡ accumulate_all fuel t ws k s₀ →
-    v ≡ t.order k → s' ≡ accumulate fuel t ws v s → s' ≡ accumulate_all fuel t ws (k + 1) s₀
-unfolding accumulate_all
-accumulate_all-next fuel t ws k v s₀ s s' a b c = rw (add-one k, c, b, a)
-
-pub propagate_all-next : (t : Peeling) (m k v : ℕ) (s₀ s s' : List ℤ) → s ≡ propagate_all t m k s₀ → v ≡ t.order (m - suc k) → s' ≡ propagate t v s →
-    s' ≡ propagate_all t m (k + 1) s₀
-unfolding propagate_all
-propagate_all-next t m k v s₀ s s' a b c = rw (add-one k, c, b, a)
-
-pub accumulate_all-none : (fuel : ℕ) (t : Peeling) (ws s : List ℤ) → s ≡ accumulate_all fuel t ws 0 s
-unfolding accumulate_all
-accumulate_all-none fuel t ws s = refl
-
-pub propagate_all-none : (t : Peeling) (m : ℕ) (s : List ℤ) → s ≡ propagate_all t m 0 s
-unfolding propagate_all
-propagate_all-none t m s = refl
-
--- ---- what an iteration of these loops asks
-
-pub accumulate_asks : (n : ℕ) (ws bs₀ bs s : List ℤ) (k v : ℕ) → Lent n ws bs₀ s →
-    ((j : ℕ) → j < n - 2 → Around n (length s) (peeling s) ((peeling s).order j)) →
-    ((j : ℕ) → j < n - 2 → Room (length s) (peeling s) ws ((peeling s).order j) (accumulate_all (length s) (peeling s) ws j bs₀)) →
-    k + 2 < n → bs ≡ accumulate_all (length s) (peeling s) ws k bs₀ → length bs ≡ length bs₀ → v ≡ (peeling s).order k →
-    ((n : ℕ) × Lent n ws bs s × Around n (length s) (peeling s) v) × Room (length s) (peeling s) ws v bs
-accumulate_asks n ws bs₀ bs s k v L A R h e l q = (
-  (n, record { readable = L.readable; weights = L.weights; coordinates = l ∙ L.coordinates }, rw q (A k (omega arith))),
-  rw (q, e) (R k (omega arith)),
-)
-
--- the index that the code computes
-pub propagate_index : (n k : ℕ) (t : Peeling) → k + 2 < n → t.order (n - 3 - k) ≡ t.order (n - 2 - suc k)
-propagate_index n k t h = let e : n - 3 - k ≡ n - 2 - suc k = omega arith in ap t.order e
-
-pub propagate_asks : (n : ℕ) (bs₀ bs s : List ℤ) (k v : ℕ) → Readable n (length s) (peeling s) → length bs₀ ≡ coordinates_length n →
-    ((j : ℕ) → j < n - 2 → Around n (length s) (peeling s) ((peeling s).order j)) →
-    ((j : ℕ) → j < n - 2 → Ceiling (peeling s) ((peeling s).order (n - 2 - suc j)) (propagate_all (peeling s) (n - 2) j bs₀)) →
-    k + 2 < n → bs ≡ propagate_all (peeling s) (n - 2) k bs₀ → length bs ≡ length bs₀ → v ≡ (peeling s).order (n - 2 - suc k) →
-    ((n : ℕ) × Readable n (length s) (peeling s) × (length bs ≡ coordinates_length n) × Around n (length s) (peeling s) v) × Ceiling (peeling s) v bs
-propagate_asks n bs₀ bs s k v R c A C h e l q = (
-  (n, R, l ∙ c, rw q (A (n - 2 - suc k) (omega arith))),
-  rw (q, e) (C k (omega arith)),
-)
 
 -- ---- the whole, call by call: each asks what the theory gives of the list that it is handed
 

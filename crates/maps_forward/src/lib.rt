@@ -22,24 +22,22 @@ use labels_tables::{left_dart, origin, removed_vertex, right_dart};
 use scratch_tables::prev_dart;
 
 // coordinate c of vertex i made that of coordinate d of vertex j
+#[tactic(auto, unfolding(maps_forward_model::specs::Model::copy))]
 fn copy(s: &mut [i64], c: usize, i: usize, d: usize, j: usize)
     requires { (word_index c i < length s.old) × (word_index d j < length s.old) }
     ensures { s.new ≡ copy (word_index c i) (word_index d j) s.old }
 {
-    let x = int64::get(s, 3 * j + d);
-    int64::put(s, 3 * i + c, x);
+    s[3 * i + c] = s[3 * j + d];
 }
 
 // coordinate d of vertex j added to coordinate c of vertex i
+#[tactic(auto, using(std::proofs::lemmas::Int::ints), unfolding(maps_forward_model::specs::Model::add, definitions::specs::Backward::coordinate))]
 fn add(s: &mut [i64], c: usize, i: usize, d: usize, j: usize)
     requires { (word_index c i < length s.old) × (word_index d j < length s.old)
         × (nat_abs (coordinate s.old c i) + nat_abs (coordinate s.old d j) < 2 ^ 63) }
     ensures { s.new ≡ add (word_index c i) (word_index d j) s.old }
 {
-    let x = int64::get(s, 3 * i + c);
-    let y = int64::get(s, 3 * j + d);
-    let z = int64::plus(x, y);
-    int64::put(s, 3 * i + c, z);
+    s[3 * i + c] += s[3 * j + d];
 }
 
 // The weight of a fan's dart g, whose previous one is q, stored at the vertex where the new frontier dart starts. Weights stand from triangle 1 on.
@@ -49,8 +47,7 @@ fn store_weight(weights: &[i64], coordinates: &mut [i64], scratch: &[i64], g: us
         store_weight (peeling scratch.now).origin weights.now g coordinates.old }
 {
     let u = origin(scratch, q);
-    let w = int64::get(weights, g / 3 - 1);
-    int64::put(coordinates, 3 * u + 1, w);
+    coordinates[3 * u + 1] = weights[g / 3 - 1];
 }
 
 // all of a fan, from one dart on up to the one whose previous dart is `stop`
@@ -118,6 +115,7 @@ fn accumulate(weights: &[i64], coordinates: &mut [i64], scratch: &[i64], v: usiz
 }
 
 // all vertices leave
+#[tactic(auto, unfolding(maps_forward_model::specs::Model::accumulate_all))]
 fn accumulate_all(n: usize, weights: &[i64], coordinates: &mut [i64], scratch: &[i64])
     requires { Lent n weights.now coordinates.old scratch.now
         × ((k : ℕ) → k < n - 2 → Around n (length scratch.now) (peeling scratch.now) ((peeling scratch.now).order k))
@@ -126,21 +124,20 @@ fn accumulate_all(n: usize, weights: &[i64], coordinates: &mut [i64], scratch: &
     ensures { coordinates.new ≡
         accumulate_all (length scratch.now) (peeling scratch.now) weights.now (n - 2) coordinates.old }
 {
-    let mut k = 0;
-    while k + 2 < n {
+    for k in 0..n - 2 {
         let v = removed_vertex(scratch, k);
         accumulate(weights, coordinates, scratch, v);
-        k += 1;
     }
 }
 
 // v0 and v1 at their corners
+#[tactic(auto, unfolding(maps_forward_model::specs::Model::with_corners))]
 fn place_corners(coordinates: &mut [i64], v0: usize, v1: usize)
     requires { (word_index 1 v0 < length coordinates.old) × (word_index 1 v1 < length coordinates.old) }
     ensures { coordinates.new ≡ with_corners v0 v1 coordinates.old }
 {
-    int64::put(coordinates, 3 * v0 + 1, 0);
-    int64::put(coordinates, 3 * v1, 0);
+    coordinates[3 * v0 + 1] = 0;
+    coordinates[3 * v1] = 0;
     copy(coordinates, 0, v0, 1, v1);
 }
 
@@ -159,6 +156,7 @@ fn propagate(coordinates: &mut [i64], scratch: &[i64], v: usize)
 }
 
 // all vertices come back
+#[tactic(auto, unfolding(maps_forward_model::specs::Model::propagate_all))]
 fn propagate_all(n: usize, coordinates: &mut [i64], scratch: &[i64])
     requires { Readable n (length scratch.now) (peeling scratch.now) × (length coordinates.old ≡ coordinates_length n)
         × ((k : ℕ) → k < n - 2 → Around n (length scratch.now) (peeling scratch.now) ((peeling scratch.now).order k))
@@ -166,25 +164,21 @@ fn propagate_all(n: usize, coordinates: &mut [i64], scratch: &[i64])
         (propagate_all (peeling scratch.now) (n - 2) k coordinates.old)) }
     ensures { coordinates.new ≡ propagate_all (peeling scratch.now) (n - 2) (n - 2) coordinates.old }
 {
-    let mut k = 0;
-    while k + 2 < n {
-        let v = removed_vertex(scratch, n - 3 - k);
+    for k in (0..n - 2).rev() {
+        let v = removed_vertex(scratch, k);
         propagate(coordinates, scratch, v);
-        k += 1;
     }
 }
 
 // the third coordinate of vertex v, where the three sum to `total`
+#[tactic(auto, using(std::proofs::lemmas::Int::ints), unfolding(definitions::specs::Backward::coordinate))]
 fn write_third(coordinates: &mut [i64], total: i64, v: usize)
     requires { (3 * v + 2 < length coordinates.old) × (nat_abs total ≤ limit) × (nat_abs (coordinate coordinates.old 0 v) ≤ limit)
         × (nat_abs (coordinate coordinates.old 1 v) ≤ limit) }
     ensures { coordinates.new ≡
         set coordinates.old (3 * v + 2) (total -ℤ coordinate coordinates.old 0 v -ℤ coordinate coordinates.old 1 v) }
 {
-    let b0 = int64::get(coordinates, 3 * v);
-    let b1 = int64::get(coordinates, 3 * v + 1);
-    let b2 = int64::minus(int64::minus(total, b0), b1);
-    int64::put(coordinates, 3 * v + 2, b2);
+    coordinates[3 * v + 2] = total - coordinates[3 * v] - coordinates[3 * v + 1];
 }
 
 // The third coordinate of every vertex, from the two others: the three sum to N, which is coordinate 0 of v0.
@@ -192,11 +186,9 @@ pub fn write_thirds(n: usize, coordinates: &mut [i64], v0: usize)
     requires { ThirdsPre n v0 coordinates.old }
     ensures { ThirdsWritten n (coordinate coordinates.old 0 v0) coordinates.old coordinates.new }
 {
-    let total = int64::get(coordinates, 3 * v0);
-    let mut v = 0;
-    while v < n {
+    let total = coordinates[3 * v0];
+    for v in 0..n {
         write_third(coordinates, total, v);
-        v += 1;
     }
 }
 

@@ -11,20 +11,18 @@ ghost use Rattle.labels_tables.specs.LabelledTables.{Labelled};
 ghost use Rattle.maps_limits.specs.Limits.{balanced};
 
 // L, the limit on the sum of the weights' absolute values and on each coordinate
-pub const LIMIT: usize = 1_073_741_823;
+pub const LIMIT: u64 = 1_073_741_823;
 
 // 9: the weights' absolute values sum past the limit
 pub fn past_limit(weights: &[i64]) -> bool
     ensures { result ≡ row9 weights.now }
 {
-    let mut sum: usize = 0;
-    let mut i = 0;
-    while i < weights.len() {
-        sum += int64::magnitude(int64::get(weights, i));
+    let mut sum = 0;
+    for &w in weights {
+        sum += w.unsigned_abs();
         if sum > LIMIT {
             return true;
         }
-        i += 1;
     }
     false
 }
@@ -34,64 +32,38 @@ pub fn low_above_high(lows: &[i64], highs: &[i64]) -> bool
     requires { length lows.now ≡ length highs.now }
     ensures { result ≡ row29 lows.now highs.now }
 {
-    let mut i = 0;
-    while i < lows.len() {
-        if !int64::at_most(int64::get(lows, i), int64::get(highs, i)) {
-            return true;
-        }
-        i += 1;
-    }
-    false
+    lows.iter().zip(highs).any(|(&low, &high)| high < low)
 }
 
 // 10: a coordinate beyond the limit, on either side of 0
 pub fn out_of_range(coordinates: &[i64]) -> bool
     ensures { result ≡ row10 coordinates.now }
 {
-    let mut i = 0;
-    while i < coordinates.len() {
-        let size = int64::magnitude(int64::get(coordinates, i));
-        if size > LIMIT {
-            return true;
-        }
-        i += 1;
-    }
-    false
+    coordinates.iter().any(|&b| b.unsigned_abs() > LIMIT)
 }
 
 // coordinate c of vertex i, which there is
+#[tactic(auto, unfolding(definitions::specs::Backward::coordinate))]
 pub fn coordinate_at(coordinates: &[i64], c: usize, i: usize) -> i64
     requires { 3 * i + c < length coordinates.now }
     ensures { result ≡ coordinate coordinates.now c i }
 {
-    int64::get(coordinates, 3 * i + c)
-}
-
-// coordinate c of vertex i is x
-fn coordinate_is(coordinates: &[i64], c: usize, i: usize, x: i64) -> bool
-    requires { 3 * i + c < length coordinates.now }
-    ensures { result ≡ eq_z (coordinate coordinates.now c i) x }
-{
-    int64::equal(coordinate_at(coordinates, c, i), x)
+    coordinates[3 * i + c]
 }
 
 // vertex i is at (x, y, z)
+#[tactic(auto, using(crate::specs::Limits::same_bits), unfolding(definitions::specs::Refusals::has_coordinates))]
 fn has_coordinates(coordinates: &[i64], i: usize, x: i64, y: i64, z: i64) -> bool
     requires { 3 * i + 2 < length coordinates.now }
     ensures { result ≡ has_coordinates coordinates.now i x y z }
 {
-    if coordinate_is(coordinates, 0, i, x) {
-        if coordinate_is(coordinates, 1, i, y) {
-            coordinate_is(coordinates, 2, i, z)
-        } else {
-            false
-        }
-    } else {
-        false
-    }
+    coordinate_at(coordinates, 0, i) == x
+        && coordinate_at(coordinates, 1, i) == y
+        && coordinate_at(coordinates, 2, i) == z
 }
 
-// 11: an outer vertex off its corner
+// 11: an outer vertex off its corner. What it asks of scratch stays a clause: the promise speaks of the same triangles and labels, so a type would save
+// nothing.
 pub fn off_corner(coordinates: &[i64], scratch: &[i64]) -> bool
     requires { (n : ℕ) × (ts : List ℕ) × (ls : List ℕ) × Labelled n ts ls scratch.now × (length coordinates.now ≡ coordinates_length n) }
     ensures { (n : ℕ) (ts ls : List ℕ) → Labelled n ts ls scratch.now → result ≡ row11 ts coordinates.now }
@@ -100,18 +72,13 @@ pub fn off_corner(coordinates: &[i64], scratch: &[i64]) -> bool
     let v1 = labels_tables::origin(scratch, 2);
     let v2 = labels_tables::origin(scratch, 1);
     let total = coordinate_at(coordinates, 0, v0);
-    if has_coordinates(coordinates, v0, total, 0, 0) {
-        if has_coordinates(coordinates, v1, 0, total, 0) {
-            !has_coordinates(coordinates, v2, 0, 0, total)
-        } else {
-            true
-        }
-    } else {
-        true
-    }
+    !(has_coordinates(coordinates, v0, total, 0, 0)
+        && has_coordinates(coordinates, v1, 0, total, 0)
+        && has_coordinates(coordinates, v2, 0, 0, total))
 }
 
 // the sum of a vertex's coordinates
+#[tactic(auto, using(std::proofs::lemmas::Int::ints, crate::specs::Limits::coordinate_parts))]
 fn sum_of(coordinates: &[i64], i: usize) -> i64
     requires { (3 * i + 2 < length coordinates.now) × (row10 coordinates.now ≡ false) }
     ensures { result ≡ coordinate coordinates.now 0 i +ℤ coordinate coordinates.now 1 i +ℤ coordinate coordinates.now 2 i }
@@ -119,18 +86,20 @@ fn sum_of(coordinates: &[i64], i: usize) -> i64
     let x = coordinate_at(coordinates, 0, i);
     let y = coordinate_at(coordinates, 1, i);
     let z = coordinate_at(coordinates, 2, i);
-    int64::plus(int64::plus(x, y), z)
+    x + y + z
 }
 
 // the coordinates of vertex i do not sum to `total`
+#[tactic(auto, using(crate::specs::Limits::same_bits), unfolding(crate::specs::Limits::balanced))]
 fn unbalanced(coordinates: &[i64], total: i64, i: usize) -> bool
     requires { (3 * i + 2 < length coordinates.now) × (row10 coordinates.now ≡ false) }
     ensures { result ≡ not (balanced coordinates.now total i) }
 {
-    !int64::equal(sum_of(coordinates, i), total)
+    sum_of(coordinates, i) != total
 }
 
 // b0 of v0, which is N where row 11 finds nothing
+#[tactic(auto, using(std::proofs::lemmas::Int::ints, crate::specs::Limits::coordinate_parts))]
 pub fn total_of(coordinates: &[i64], scratch: &[i64]) -> i64
     requires { ((n : ℕ) × (ts : List ℕ) × (ls : List ℕ) × Labelled n ts ls scratch.now × (length coordinates.now ≡ coordinates_length n))
         × (row10 coordinates.now ≡ false) }
@@ -147,12 +116,5 @@ pub fn off_sum(n: usize, coordinates: &[i64], scratch: &[i64]) -> bool
     ensures { (ts ls : List ℕ) → Labelled n ts ls scratch.now → result ≡ row12 n ts coordinates.now }
 {
     let total = total_of(coordinates, scratch);
-    let mut i = 0;
-    while i < n {
-        if unbalanced(coordinates, total, i) {
-            return true;
-        }
-        i += 1;
-    }
-    false
+    (0..n).any(|i| unbalanced(coordinates, total, i))
 }

@@ -1,5 +1,5 @@
 -- What the mesh check answers and leaves, for each way that it can end: the equations of `check_call`. Assumes nothing.
-use Rattle.std.specs.Prelude.{ℕ, ◌≡◌, length, ℤ, pos}
+use Rattle.std.specs.Prelude.{ℕ, ◌≡◌, length, ℤ, pos, Result, Ok, Err}
 use Rattle.std.proofs.Common.{sym, ◌∙◌}
 use Rattle.std.proofs.Math.Path.{ap}
 use mathlib.Core.List.{List, [], map}
@@ -9,9 +9,8 @@ use Rattle.definitions.specs.Refusals.{scratch_after, call_refusal, check_call}
 use Rattle.theory_sphere.specs.FirstRefusal.{only_none, lent, call_refusal-mesh, call_refusal-own}
 use Rattle.lent_slices.specs.Lengths.{first_rows}
 use Rattle.lent_slices.specs.Calls.{Fits, early_found, Late, zeros, cleared}
-use Rattle.mesh_answer.specs.Answer.{to_refusal, mesh_to_answer}
-use Rattle.mesh_answer.specs.declared.MeshAnswer.{MeshAnswer}
-use Rattle.mesh_answer.specs.declared.MeshAnswer.TheVariants.{Accepted, Refused}
+use Rattle.mesh_answer.specs.Answer.{to_refusal, to_answer}
+use Rattle.mesh_answer.specs.declared.Refusal.{Refusal as Why}
 use Rattle.mesh_check.specs.Stages.{Examined, accepted_none}
 
 module _ (n outer_place : ℕ) (ts : List ℕ) (scratch : List ℤ) where
@@ -32,13 +31,13 @@ module _ (n outer_place : ℕ) (ts : List ℕ) (scratch : List ℤ) where
 
   -- 21, 3 to 8, or nothing
   module _ (F : Fits n ts scratch []) where
-    answers : (s : List ℤ) (a : MeshAnswer) → Examined n outer_place ts s a → mesh_to_answer a ≡ (check_call n outer_place ts scratch).answer
+    answers : (s : List ℤ) (a : Result (Unit {0}) Why) → Examined n outer_place ts s a → to_answer a ≡ (check_call n outer_place ts scratch).answer
     unfolding first_refusal
-    answers s Accepted S = (given none (call_refusal-own n outer_place ts scratch [] [] F.size F.lengths (accepted_none S))).0
-    answers s (Refused why) S =
+    answers s (Ok x) S = (given none (call_refusal-own n outer_place ts scratch [] [] F.size F.lengths (accepted_none S))).0
+    answers s (Err why) S =
         (given (some (to_refusal why)) (call_refusal-mesh n outer_place ts scratch [] [] (to_refusal why) F.size F.lengths S)).0
 
-    pub gives_examined : (s z : List ℤ) (a : MeshAnswer) → Examined n outer_place ts s a → length s ≡ length scratch → z ≡ map (λ _. pos 0) s
-        → Gives (mesh_to_answer a) z
+    pub gives_examined : (s z : List ℤ) (a : Result (Unit {0}) Why) → Examined n outer_place ts s a → length s ≡ length scratch → z ≡ map (λ _. pos 0) s
+        → Gives (to_answer a) z
     unfolding check_call
     gives_examined s z a S l e = (answers s a S, e ∙ cleared scratch s l ∙ zeros n outer_place ts scratch [] [] (only_none Late) F)

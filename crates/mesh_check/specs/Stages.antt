@@ -1,6 +1,7 @@
 -- The steps of the mesh check put together: what scratch holds after each, and which row it has found. Assumes nothing.
-use Rattle.std.specs.Prelude.{ℕ, ◌+◌, ◌-◌, ◌*◌, ◌/◌, ◌≤◌, ◌<◌, ◌≡◌, Bool, true, false, List, ◌∷◌, length, ℤ}
+use Rattle.std.specs.Prelude.{ℕ, ◌+◌, ◌-◌, ◌*◌, ◌/◌, ◌≤◌, ◌<◌, ◌≡◌, Bool, true, false, List, ◌∷◌, length, ℤ, Result, Ok, Err}
 use Rattle.std.proofs.Common.{sym, ap, ◌∙◌, arith}
+use Rattle.std.proofs.Math.Logic.{inl, inr}
 use Rattle.std.proofs.Math.Option.{none, some}
 use Rattle.std.proofs.Math.Decide.{dec_lt}
 use Rattle.std.proofs.Math.ListN.{get_or-eq_default}
@@ -27,12 +28,11 @@ use Rattle.mesh_model.specs.FloodFill.{Pairs, explore_is}
 use Rattle.mesh_rings.specs.RingLoops.{AllRounding}
 use Rattle.mesh_sides.specs.Room.{Ready, Filling, filled_ready}
 use Rattle.mesh_sides.specs.LoopInvariants.{AllFilled, AllMatched}
-use Rattle.mesh_sides.specs.MatchedSides.{Matched, SidesMatched, found-5, found-6, found_none, found_rings}
+use Rattle.mesh_sides.specs.MatchedSides.{Matched, SidesMatched, found-5, found-6, found_refusal, found_none, found_rings}
 use Rattle.mesh_connectivity.specs.FloodFillLoops.{Sided, Split}
 use Rattle.mesh_answer.specs.Answer.{to_refusal, found_in}
 use Rattle.mesh_answer.specs.declared.Refusal.{Refusal}
-use Rattle.mesh_answer.specs.declared.MeshAnswer.{MeshAnswer}
-use Rattle.mesh_answer.specs.declared.MeshAnswer.TheVariants.{Accepted, Refused}
+use Rattle.mesh_answer.specs.declared.Refusal.TheVariants.{RepeatedSide, UnpairedSide}
 
 -- ---- what is lent, and what is left there
 
@@ -63,9 +63,9 @@ pub record Accepting (n : ℕ) (ts : List ℕ) (i : Incidence) : Type 0 where
   pub origins : (d : ℕ) → d < length ts → i.origin d ≡ org ts d
 
 -- what the answer says of the mesh: of the rows 3 to 7 and 25
-abbrev pub SidesPaired : ℕ → List ℕ → List ℤ → MeshAnswer → Type 0
-SidesPaired n ts s Accepted = Paired n ts (incidence s)
-SidesPaired n ts s (Refused why) = first_refusal (mesh_rows n ts) ≡ some (to_refusal why)
+abbrev pub SidesPaired : ℕ → List ℕ → List ℤ → Result (Unit {0}) Refusal → Type 0
+SidesPaired n ts s (Ok x) = Paired n ts (incidence s)
+SidesPaired n ts s (Err why) = first_refusal (mesh_rows n ts) ≡ some (to_refusal why)
 
 -- of the list as lent: 21 has not found anything either
 pub record AcceptingRim (n outer_place : ℕ) (ts : List ℕ) (i : Incidence) : Type 0 where
@@ -73,9 +73,9 @@ pub record AcceptingRim (n outer_place : ℕ) (ts : List ℕ) (i : Incidence) : 
   pub mesh : Accepting n (fronted outer_place ts) i
 
 -- what the answer says of 21 and of all rows of the mesh
-abbrev pub Examined : ℕ → ℕ → List ℕ → List ℤ → MeshAnswer → Type 0
-Examined n outer_place ts s Accepted = AcceptingRim n outer_place ts (incidence s)
-Examined n outer_place ts s (Refused why) = first_refusal (rim_rows n outer_place ts) ≡ some (to_refusal why)
+abbrev pub Examined : ℕ → ℕ → List ℕ → List ℤ → Result (Unit {0}) Refusal → Type 0
+Examined n outer_place ts s (Ok x) = AcceptingRim n outer_place ts (incidence s)
+Examined n outer_place ts s (Err why) = first_refusal (rim_rows n outer_place ts) ≡ some (to_refusal why)
 
 -- ---- room
 
@@ -140,7 +140,7 @@ can_fill n outer_place ts s s₁ r R e f l b =
 
 -- ---- row 8, of any list that is a mesh
 
-module _ (n : ℕ) (ts : List ℕ) (words : ℕ) (L : Lent n ts words) (s : List ℤ) (p : MeshAnswer) (e : p ≡ Accepted)
+module _ (n : ℕ) (ts : List ℕ) (words : ℕ) (L : Lent n ts words) (s : List ℤ) (p : Result (Unit {0}) Refusal) (e : p ≡ Ok tt)
     (S : SidesPaired n ts s p) where
   P : Paired n ts (incidence s)
   P = rw e at S
@@ -209,27 +209,35 @@ module _ (n outer_place : ℕ) (ts : List ℕ) where
         filled_ready n (length mesh / 3) mesh s₀ s₁ F (whole n mesh L).0 (whole n mesh L).2 (rw l (omega (arith, L.room))) (omega (arith, L.most)) m
         (A.same f4)
 
-    module _ (f4 : r4 ≡ false) (s₂ : List ℤ) (r : ℕ) (M : AllMatched n s₁ s₂ r) where
+    module _ (f4 : r4 ≡ false) (s₂ : List ℤ) (r : Result Bool Refusal) (M : AllMatched n s₁ s₂ r) where
       none4 : row4 mesh ≡ false
       none4 = sym A.found ∙ f4
 
       f : incidence s₁ ≡ fill mesh (length mesh) (incidence s₀)
       f = A.same f4
 
-      pub refuse5 : r ≡ 5 → first_refusal (mesh_rows n mesh) ≡ some (numbered 5)
+      pub refuse5 : r ≡ Err RepeatedSide → first_refusal (mesh_rows n mesh) ≡ some (numbered 5)
       refuse5 e =
           mesh-5 n mesh none3 none4
           (found-5 n (length mesh / 3) mesh (whole n mesh L).0 (whole n mesh L).2 (small n mesh L.least none3) s₀ s₁ s₂ F f r M e)
 
-      pub refuse6 : r ≡ 6 → first_refusal (mesh_rows n mesh) ≡ some (numbered 6)
+      pub refuse6 : r ≡ Err UnpairedSide → first_refusal (mesh_rows n mesh) ≡ some (numbered 6)
       refuse6 e =
           let g = found-6 n (length mesh / 3) mesh (whole n mesh L).0 (whole n mesh L).2 (small n mesh L.least none3) s₀ s₁ s₂ F f r M e in
           mesh-6 n mesh none3 none4 g.0 g.1
 
+      -- whichever of them it is
+      pub refuse_sides : (why : Refusal) → r ≡ Err why → first_refusal (mesh_rows n mesh) ≡ some (to_refusal why)
+      refuse_sides why e =
+          elim (found_refusal n (length mesh / 3) mesh (whole n mesh L).0 (whole n mesh L).2 (small n mesh L.least none3) s₀ s₁ s₂ F f r M why e) [
+            | inl q ↦ rw q (refuse5 (rw q at e))
+            | inr q ↦ rw q (refuse6 (rw q at e))
+          ]
+
       -- rows 5 and 6 have found nothing
-      module _ (n5 : r ≡ 5 → ⊥) (n6 : r ≡ 6 → ⊥) where
+      module _ (rings : Bool) (e : r ≡ Ok rings) where
         matched : SidesMatched mesh (incidence s₂)
-        matched = found_none n (length mesh / 3) mesh (whole n mesh L).0 (whole n mesh L).2 (small n mesh L.least none3) s₀ s₁ s₂ F f r M n5 n6
+        matched = found_none n (length mesh / 3) mesh (whole n mesh L).0 (whole n mesh L).2 (small n mesh L.least none3) s₀ s₁ s₂ F f r M rings e
 
         passed : Passed n mesh
         passed = record { none3 = none3; none4 = none4; none5 = matched.none5; none6 = matched.none6 }
@@ -242,12 +250,13 @@ module _ (n outer_place : ℕ) (ts : List ℕ) where
             first_broken_is mesh (length mesh / 3) (whole n mesh L).0 n the_sides (incidence s₂) matched.tables.rooted matched.tables.turns
 
         -- each vertex has one ring
-        pub pairs : r ≡ 0 → Paired n mesh (incidence s₂)
-        pairs e = record {
+        pub pairs : rings ≡ true → Paired n mesh (incidence s₂)
+        pairs t = record {
           passed = passed;
           rings =
               sym rings_are
-              ∙ found_rings n (length mesh / 3) mesh (whole n mesh L).0 (whole n mesh L).2 (small n mesh L.least none3) s₀ s₁ s₂ F f r M e;
+              ∙ found_rings n (length mesh / 3) mesh (whole n mesh L).0 (whole n mesh L).2 (small n mesh L.least none3) s₀ s₁ s₂ F f r M
+              (rw t at e);
           tables = matched.tables;
         }
 
@@ -267,9 +276,9 @@ module _ (n outer_place : ℕ) (ts : List ℕ) where
           };
         }
 
-        pub rounded : (q : MeshAnswer) → found_in q ≡ first_broken (incidence s₂) n 0 → SidesPaired n mesh s₂ q
-        rounded Accepted g = record { passed = passed; rings = sym rings_are ∙ sym g; tables = matched.tables }
-        rounded (Refused why) g = from_vertex n mesh (to_refusal why) passed (sym rings_are ∙ sym g)
+        pub rounded : (q : Result (Unit {0}) Refusal) → found_in q ≡ first_broken (incidence s₂) n 0 → SidesPaired n mesh s₂ q
+        rounded (Ok x) g = record { passed = passed; rings = sym rings_are ∙ sym g; tables = matched.tables }
+        rounded (Err why) g = from_vertex n mesh (to_refusal why) passed (sym rings_are ∙ sym g)
 
   -- ---- the list as lent: 21, and then the rows of the mesh, which has as many triangles
 
@@ -287,11 +296,11 @@ module _ (n outer_place : ℕ) (ts : List ℕ) where
       past21 : first_refusal (rim_rows n outer_place ts) ≡ first_refusal (mesh_rows n mesh)
       past21 = rim-mesh n outer_place ts ((row21_means n outer_place).1 rimmed.there)
 
-      module _ (s : List ℤ) (q : MeshAnswer) (S : SidesPaired n mesh s q) where
-        pub said_refused : (why : Refusal) → q ≡ Refused why → Examined n outer_place ts s q
-        said_refused why e = let g : SidesPaired n mesh s (Refused why) = rw e at S in rw e (past21 ∙ g)
+      module _ (s : List ℤ) (q : Result (Unit {0}) Refusal) (S : SidesPaired n mesh s q) where
+        pub said_refused : (why : Refusal) → q ≡ Err why → Examined n outer_place ts s q
+        said_refused why e = let g : SidesPaired n mesh s (Err why) = rw e at S in rw e (past21 ∙ g)
 
-        module _ (e : q ≡ Accepted) where
+        module _ (e : q ≡ Ok tt) where
           pub walks : length s ≡ words → Sided (length ts / 3) (length s) (incidence s).turn
           walks l = rw as_many at (can_walk n mesh words (mesh-lent rimmed) s q e S l)
 

@@ -7,70 +7,72 @@
 ghost use Rattle.std.specs.Prelude.{◌≡◌, length};
 ghost use Rattle.definitions.specs.Mesh.{fronted};
 ghost use Rattle.definitions.specs.Refusals.{check_call};
-ghost use Rattle.mesh_answer.specs.Answer.{mesh_to_answer};
+ghost use Rattle.mesh_answer.specs.Answer.{to_answer};
 ghost use Rattle.mesh_check.specs.Stages.{Lent, Rimmed, SidesPaired, Examined};
 
-use lent_slices::mesh_rows;
-use mesh_answer::{MeshAnswer, Refusal};
+use lent_slices::{Contents, check_sizes};
+use mesh_answer::Refusal;
 use mesh_connectivity::disconnected;
 use mesh_rings::check_rings;
 use mesh_sides::{fill_incidence_lists, high_vertex, match_sides};
 use scratch_tables::{clear, clear_vertices};
 
+// A mesh as every call on one is lent it: how many vertices it has, which triangle is opened as the rim, and the corners of all triangles.
+#[derive(Clone, Copy)]
+pub struct Mesh<'a> {
+    pub n: usize,
+    pub outer: usize,
+    pub triangles: &'a [u16],
+}
+
 // Rows 3 to 7, and 25. Which vertex has not one ring is asked only where one has not.
-fn pair_sides(n: usize, outer: usize, triangles: &[u16], scratch: &mut [i64]) -> MeshAnswer
-    requires { Rimmed n outer triangles.now (length scratch.old) }
-    ensures { SidesPaired n (fronted outer triangles.now) scratch.new result }
+fn pair_sides(mesh: &Mesh, scratch: &mut [i64]) -> Result<(), Refusal>
+    requires { Rimmed mesh.now.n mesh.now.outer mesh.now.triangles.now (length scratch.old) }
+    ensures { SidesPaired mesh.now.n (fronted mesh.now.outer mesh.now.triangles.now) scratch.new result }
 {
-    if high_vertex(n, triangles) {
-        return MeshAnswer::Refused(Refusal::Numbered(3));
+    if high_vertex(mesh.n, mesh.triangles) {
+        return Err(Refusal::VertexNumber);
     }
     clear_vertices(scratch);
-    if fill_incidence_lists(outer, triangles, scratch) {
-        return MeshAnswer::Refused(Refusal::Numbered(4));
+    if fill_incidence_lists(mesh.outer, mesh.triangles, scratch) {
+        return Err(Refusal::RepeatedVertex);
     }
-    let row = match_sides(n, scratch);
-    if row == 5 {
-        return MeshAnswer::Refused(Refusal::Numbered(5));
+    if match_sides(mesh.n, scratch)? {
+        return Ok(());
     }
-    if row == 6 {
-        return MeshAnswer::Refused(Refusal::Numbered(6));
-    }
-    if row == 0 {
-        return MeshAnswer::Accepted;
-    }
-    check_rings(n, scratch)
+    check_rings(mesh.n, scratch)
 }
 
 // Rows 21 and 3 to 8, for every call on a mesh. Where the mesh is accepted scratch holds each dart's turn and origin. Where it is refused nothing is said of
 // scratch: the call clears it.
-pub fn examine(n: usize, outer: usize, triangles: &[u16], scratch: &mut [i64]) -> MeshAnswer
-    requires { Lent n triangles.now (length scratch.old) }
-    ensures { Examined n outer triangles.now scratch.new result }
+pub fn examine(mesh: &Mesh, scratch: &mut [i64]) -> Result<(), Refusal>
+    requires { Lent mesh.now.n mesh.now.triangles.now (length scratch.old) }
+    ensures { Examined mesh.now.n mesh.now.outer mesh.now.triangles.now scratch.new result }
 {
-    if triangles.len() / 3 <= outer {
-        return MeshAnswer::Refused(Refusal::Numbered(21));
+    let triangles = mesh.triangles.len() / 3;
+    if triangles <= mesh.outer {
+        return Err(Refusal::OuterTriangle);
     }
-    let paired = pair_sides(n, outer, triangles, scratch);
-    let MeshAnswer::Accepted = paired else {
-        return paired;
-    };
-    if disconnected(scratch, triangles.len() / 3) {
-        return MeshAnswer::Refused(Refusal::Numbered(8));
+    pair_sides(mesh, scratch)?;
+    if disconnected(scratch, triangles) {
+        return Err(Refusal::Disconnected);
     }
-    MeshAnswer::Accepted
+    Ok(())
 }
 
 // The public call. Scratch is as lent after 1 and 2, and holds zeros after every other answer.
-pub fn check(n: usize, outer: usize, triangles: &[u16], scratch: &mut [i64]) -> MeshAnswer
-    ensures answer { mesh_to_answer result ≡ (check_call n outer triangles.now scratch.old).answer }
-    ensures scratch { scratch.new ≡ (check_call n outer triangles.now scratch.old).scratch }
+pub fn check(mesh: &Mesh, scratch: &mut [i64]) -> Result<(), Refusal>
+    ensures answer { to_answer result ≡ (check_call mesh.now.n mesh.now.outer mesh.now.triangles.now scratch.old).answer }
+    ensures scratch { scratch.new ≡ (check_call mesh.now.n mesh.now.outer mesh.now.triangles.now scratch.old).scratch }
 {
-    let number = mesh_rows(n, triangles.len(), scratch.len());
-    if number != 0 {
-        return MeshAnswer::Refused(Refusal::Numbered(number));
-    }
-    let answer = examine(n, outer, triangles, scratch);
+    check_sizes(
+        mesh.n,
+        &[
+            (Contents::Triangles, mesh.triangles.len()),
+            (Contents::Scratch, scratch.len()),
+        ],
+    )?;
+    let answer = examine(mesh, scratch);
     clear(scratch);
     answer
 }

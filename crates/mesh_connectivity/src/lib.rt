@@ -7,7 +7,7 @@ ghost use Rattle.std.specs.Prelude.{◌≡◌, ◌*◌, ◌≤◌, length};
 ghost use Rattle.definitions.specs.Mesh.{tri};
 ghost use Rattle.scratch_tables.specs.Tables.{column, mark_in, tables_of, flags_of, queue_of, Flagged};
 ghost use Rattle.mesh_tables.specs.Incidence.{incidence};
-ghost use Rattle.mesh_model.specs.FloodFill.{is_new, gain, pop, wide, narrow, onward, leave, begin};
+ghost use Rattle.mesh_model.specs.FloodFill.{is_new, pop, wide, narrow, onward, leave, begin};
 ghost use Rattle.mesh_connectivity.specs.FloodFillLoops.{front, Sided, Going, Leaving, Starting, Space, Unflagging, Moved, Explored, Split};
 
 use mesh_tables::turn;
@@ -22,38 +22,39 @@ pub struct Place {
     pub to: usize,
 }
 
-// zeros in the flags of m triangles
+// A side to leave a triangle by: the dart across it, and whether the triangle of that dart was not reached before.
+#[derive(Clone, Copy)]
+struct Side {
+    dart: usize,
+    is_new: bool,
+}
+
+// Zeros in the flags of m triangles, one by one: only `set_flag` knows where they stand in scratch, so this is no `fill` of a part of it.
 fn clear_flags(s: &mut [i64], m: usize)
     requires { m ≤ 2 * column (length s.old) }
     ensures { Unflagging s.old s.new m }
 {
-    let mut t = 0;
-    while t < m {
+    for t in 0..m {
         set_flag(s, t, 0);
-        t += 1;
     }
 }
 
-// The triangle of dart x is reached. The answer says whether it was not before.
-fn visit(s: &mut [i64], x: usize) -> bool
-    requires { mark_in (length s.old) (tri x) }
-    ensures flag { Flagged s.old s.new (tri x) 1 }
-    ensures new { result ≡ is_new x (flags_of s.old) }
+// The triangle of a dart is reached.
+#[tactic(auto, unfolding(definitions::specs::Mesh::tri, mesh_model::specs::FloodFill::is_new))]
+fn visit(s: &mut [i64], dart: usize) -> Side
+    requires { mark_in (length s.old) (tri dart) }
+    ensures flag { Flagged s.old s.new (tri dart) 1 }
+    ensures dart { result.dart ≡ dart }
+    ensures new { result.is_new ≡ is_new dart (flags_of s.old) }
 {
-    let t = x / 3;
-    let k = flag(s, t);
+    let t = dart / 3;
+    let is_new = flag(s, t) == 0;
     set_flag(s, t, 1);
-    k == 0
-}
-
-// 1, where p says that there is one
-fn one(p: bool) -> usize
-    ensures { result ≡ gain p }
-{
-    if p { 1 } else { 0 }
+    Side { dart, is_new }
 }
 
 // the first that waits is at hand
+#[tactic(auto, unfolding(mesh_model::specs::FloodFill::pop))]
 fn pop(s: &[i64], from: usize, to: usize) -> Place
     requires { mark_in (length s.now) from × (from ≤ to) }
     ensures { front s.now result ≡ pop (flags_of s.now) (queue_of s.now) from to }
@@ -61,54 +62,58 @@ fn pop(s: &[i64], from: usize, to: usize) -> Place
     Place {
         dart: queue_word(s, from),
         from: from + 1,
-        to: to,
+        to,
     }
 }
 
-// Where many wait: a and b join the queue, where p and q say that their triangles were new. What is stored past the queue's end does no harm.
-fn wide(s: &mut [i64], a: usize, b: usize, p: bool, q: bool, from: usize, to: usize) -> Place
-    requires { Space (length s.old) a b p q from to }
-    ensures { Moved s.old s.new result (wide a b p q (flags_of s.old) (queue_of s.old) from to) }
+// Where many wait: a and b join the queue, if their triangles were new. What is stored past the queue's end does no harm.
+#[tactic(auto, using(crate::specs::FloodFillLoops::stays), unfolding(mesh_model::specs::FloodFill::wide))]
+fn wide(s: &mut [i64], a: Side, b: Side, place: Place) -> Place
+    requires { Space (length s.old) a b place }
+    ensures { Moved s.old s.new result
+        (wide a.dart b.dart a.is_new b.is_new (flags_of s.old) (queue_of s.old) place.from place.to) }
 {
-    set_queue(s, to, a);
-    let t = to + one(p);
-    set_queue(s, t, b);
-    let u = t + one(q);
-    pop(s, from, u)
+    set_queue(s, place.to, a.dart);
+    let t = place.to + usize::from(a.is_new);
+    set_queue(s, t, b.dart);
+    pop(s, place.from, t + usize::from(b.is_new))
 }
 
 // Where few do: the walk goes on by a, or else by b. Where both were new, b waits; where neither was, the first that waits is next.
-fn narrow(s: &mut [i64], a: usize, b: usize, p: bool, q: bool, from: usize, to: usize) -> Place
-    requires { Space (length s.old) a b p q from to }
-    ensures { Moved s.old s.new result (narrow a b p q (flags_of s.old) (queue_of s.old) from to) }
+#[tactic(auto, using(crate::specs::FloodFillLoops::stays), unfolding(mesh_model::specs::FloodFill::narrow))]
+fn narrow(s: &mut [i64], a: Side, b: Side, place: Place) -> Place
+    requires { Space (length s.old) a b place }
+    ensures { Moved s.old s.new result
+        (narrow a.dart b.dart a.is_new b.is_new (flags_of s.old) (queue_of s.old) place.from place.to) }
 {
-    if p {
-        set_queue(s, to, b);
-        let u = to + one(q);
+    if a.is_new {
+        set_queue(s, place.to, b.dart);
+        let to = place.to + usize::from(b.is_new);
         return Place {
-            dart: a,
-            from: from,
-            to: u,
+            dart: a.dart,
+            to,
+            ..place
         };
     }
-    if q {
+    if b.is_new {
         return Place {
-            dart: b,
-            from: from,
-            to: to,
+            dart: b.dart,
+            ..place
         };
     }
-    pop(s, from, to)
+    pop(s, place.from, place.to)
 }
 
-fn onward(s: &mut [i64], a: usize, b: usize, p: bool, q: bool, from: usize, to: usize) -> Place
-    requires { Space (length s.old) a b p q from to }
-    ensures { Moved s.old s.new result (onward a b p q (flags_of s.old) (queue_of s.old) from to) }
+#[tactic(auto, unfolding(mesh_model::specs::FloodFill::onward))]
+fn onward(s: &mut [i64], a: Side, b: Side, place: Place) -> Place
+    requires { Space (length s.old) a b place }
+    ensures { Moved s.old s.new result
+        (onward a.dart b.dart a.is_new b.is_new (flags_of s.old) (queue_of s.old) place.from place.to) }
 {
-    if 8 < to - from {
-        return wide(s, a, b, p, q, from, to);
+    if 8 < place.to - place.from {
+        return wide(s, a, b, place);
     }
-    narrow(s, a, b, p, q, from, to)
+    narrow(s, a, b, place)
 }
 
 // The triangle at hand is left by the two sides other than the one that it was entered by.
@@ -118,9 +123,9 @@ fn leave(s: &mut [i64], place: Place) -> Place
 {
     let a = turn(s, place.dart);
     let b = turn(s, prev_dart(place.dart));
-    let p = visit(s, a);
-    let q = visit(s, b);
-    onward(s, a, b, p, q, place.from, place.to)
+    let first = visit(s, a);
+    let second = visit(s, b);
+    onward(s, first, second, place)
 }
 
 // The outer triangle is reached, and the one across its dart 0. It stays to be left by its two other sides.
@@ -130,9 +135,18 @@ fn begin(s: &mut [i64]) -> Place
         (begin (incidence s.old).turn (flags_of s.old) (queue_of s.old)) }
 {
     set_flag(s, 0, 1);
-    let y = turn(s, 1);
-    let p = visit(s, y);
-    narrow(s, y, 0, p, true, 0, 0)
+    let across = turn(s, 1);
+    let first = visit(s, across);
+    let outer = Side {
+        dart: 0,
+        is_new: true,
+    };
+    let place = Place {
+        dart: 0,
+        from: 0,
+        to: 0,
+    };
+    narrow(s, first, outer, place)
 }
 
 // Before m triangles are left none is at hand.
@@ -141,13 +155,11 @@ fn explore(s: &mut [i64], m: usize, start: Place) -> bool
     ensures { Explored m s.old s.new start result }
 {
     let mut place = start;
-    let mut i = 0;
-    while i < m {
+    for _ in 0..m {
         if place.to < place.from {
             return true;
         }
         place = leave(s, place);
-        i += 1;
     }
     false
 }

@@ -2,6 +2,7 @@
 -- others. It is marked by a flag once it is reached. Those that wait to be left stand in a queue; where few do, the walk goes on to a triangle just
 -- reached. Assumes nothing.
 use Prim.Native.Nat.{ℕ, zero, suc, ◌+◌, ◌-◌, ◌*◌, ◌/◌, ◌≤◌, ◌<◌}
+use Rattle.std.specs.Int.{from_bool}
 use Rattle.std.specs.Prelude.{◌≡◌, ◌≢◌, ◌⊎◌, Bool, cond, eqb, ltb, length}
 use Rattle.std.proofs.Math.Path.{refl, sym, ap}
 use Rattle.std.proofs.Common.{◌∙◌, ⊎_elim, eq-eqb, ne_eqb, lt-ltb, le-ltb}
@@ -39,8 +40,7 @@ unfoldable pub reach : ℕ → (ℕ → ℕ) → ℕ → ℕ
 reach x flag = upd (tri x) 1 flag
 
 abbrev pub gain : Bool → ℕ
-gain true = 1
-gain false = 0
+gain = from_bool
 
 -- the first that waits is at hand
 unfoldable pub pop : (ℕ → ℕ) → (ℕ → ℕ) → ℕ → ℕ → Front

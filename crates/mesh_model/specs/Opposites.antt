@@ -1,7 +1,7 @@
 -- Rows 5 and 6 by marks, and the turns: once the darts that leave a vertex have left their marks, each of them finds the opposite of the dart before it,
 -- which arrives there, at the vertex that that one comes from. It is stored in place of a link that is needed no more. Assumes nothing.
 use Prim.Native.Nat.{ℕ, zero, suc, ◌+◌, ◌*◌, ◌%◌, ◌≤◌, ◌<◌}
-use Rattle.std.specs.Prelude.{◌≡◌, ◌≢◌, Bool}
+use Rattle.std.specs.Prelude.{◌≡◌, ◌≢◌, Bool, ◌&&◌, Result, Ok, Err}
 use Rattle.std.proofs.Math.Path.{refl, sym, ap}
 use Rattle.std.proofs.Common.{◌∙◌, ⊎_elim}
 use Rattle.std.proofs.Math.Logic.{inl, inr}
@@ -13,7 +13,7 @@ use Rattle.std.proofs.Math.Decide.{ℕ_discrete, dec_lt}
 use Rattle.std.proofs.Math.ListN.{length}
 use Rattle.definitions.specs.Lists.{any}
 use Rattle.definitions.specs.Mesh.{next, prev, org, tip, opposite, opp, darts, outgoing, row5, row6}
-use Rattle.laws.specs.Lists.{◌∈◌, tested, clash, untrue, true-any, false-any}
+use Rattle.laws.specs.Lists.{◌∈◌, and_both, tested, clash, untrue, true-any, false-any}
 use Rattle.laws.specs.Counting.{Distinct, distinct_head, distinct_tail}
 use Rattle.theory_sphere.specs.Darts.{next-prev, prev-next, next-below, prev-below}
 use Rattle.theory_sphere.specs.Rows.{in_darts, darts_in, outgoing_in, in_outgoing, distinct_outgoing, opposite-true, opp_is, row5_means, row6_means}
@@ -22,15 +22,17 @@ use Rattle.mesh_tables.specs.Incidence.{Incidence, with_turn, with_mark}
 use Rattle.mesh_model.specs.IncidenceLists.{chain, chain-other, chain_same, Origins, Bucketed, Rooted}
 use Rattle.mesh_model.specs.DuplicateSides.{noted-dart, is_of, is_of_lem, noted_is, Before, Scan, scan, scan_all, Noted, leads, Apart, ListedFrom}
 use Rattle.mesh_model.specs.DuplicateSides.{scan-row5, scan_leaving, noted_apart, apart_row5, scan_all-row5, scan_all_apart}
-use Rattle.mesh_model.specs.RingWalk.{one_ring, ring_row, ring-same}
+use Rattle.mesh_model.specs.RingWalk.{one_ring, ring-same}
+use Rattle.mesh_answer.specs.declared.Refusal.{Refusal}
+use Rattle.mesh_answer.specs.declared.Refusal.TheVariants.{RepeatedSide, UnpairedSide}
 
 pub record Join : Type 0 where
   pub lacks : Bool
   pub turn : ℕ → ℕ
 
--- the row that is found, 7 for 25 too, or 0, and the tables then
+-- what is found, row 5 or 6, or else whether each vertex has one ring; and the tables then
 pub record Round : Type 0 where
-  pub row : ℕ
+  pub answer : Result Bool Refusal
   pub turn : ℕ → ℕ
   pub mark : ℕ → ℕ
 
@@ -123,18 +125,22 @@ scanned i v mark turn = scan i.origin v (chain turn (i.number v) (i.first v)) ma
 abbrev pub joined : Incidence → ℕ → (ℕ → ℕ) → (ℕ → ℕ) → Join
 joined i v mark turn = join i.origin v (scanned i v mark turn).mark (i.number v) (i.first v) turn
 
--- k vertices from v on; `row` is 7 where one before has not one ring, and else 0. Where an opposite is lacking the marks go on alone, since a side twice
--- comes before that.
-unfoldable pub join_all : Incidence → ℕ → ℕ → (ℕ → ℕ) → (ℕ → ℕ) → ℕ → Round
-join_all i zero v mark turn row = record { row = row; turn = turn; mark = mark }
-join_all i (suc k) v mark turn row =
+-- k vertices from v on; `rings` says that those before have one ring each. Where an opposite is lacking the marks go on alone, since a side twice comes
+-- before that.
+unfoldable pub join_all : Incidence → ℕ → ℕ → (ℕ → ℕ) → (ℕ → ℕ) → Bool → Round
+join_all i zero v mark turn rings = record { answer = Ok rings; turn = turn; mark = mark }
+join_all i (suc k) v mark turn rings =
     let r = scanned i v mark turn in
     let j = joined i v mark turn in
     cond r.found
-    (record { row = 5; turn = turn; mark = r.mark })
+    (record { answer = Err RepeatedSide; turn = turn; mark = r.mark })
     (cond j.lacks
-    (record { row = cond (scan_all (with_turn j.turn (with_mark r.mark i)) k (suc v) r.mark).found 5 6; turn = j.turn; mark = r.mark })
-    (join_all i k (suc v) r.mark j.turn (ring_row (with_turn j.turn i) v row)))
+    (record {
+      answer = Err (cond (scan_all (with_turn j.turn (with_mark r.mark i)) k (suc v) r.mark).found RepeatedSide UnpairedSide);
+      turn = j.turn;
+      mark = r.mark;
+    })
+    (join_all i k (suc v) r.mark j.turn (one_ring (with_turn j.turn i) v && rings)))
 
 module _ (ts : List ℕ) (i : Incidence) where
   joined_is : (v : ℕ) (mark turn : ℕ → ℕ) → ListedFrom ts v turn i
@@ -260,62 +266,54 @@ module _ (ts : List ℕ) where
 
   -- ---- rings
 
-  -- Each vertex below v has one ring, where `row` is 0. It is never 5 or 6.
-  record Ringed (i : Incidence) (v : ℕ) (turn : ℕ → ℕ) (row : ℕ) : Type 0 where
-    not5 : row ≡ 5 → ⊥
-    not6 : row ≡ 6 → ⊥
-    rings : row ≡ 0 → (w : ℕ) → w < v → one_ring (with_turn turn i) w ≡ true
+  -- each vertex below v has one ring, where `rings` says so
+  abbrev Ringed : Incidence → ℕ → (ℕ → ℕ) → Bool → Type 0
+  Ringed i v turn rings = rings ≡ true → (w : ℕ) → w < v → one_ring (with_turn turn i) w ≡ true
 
   -- the turns of v are there now, and those of the vertices before stay
-  ringed_next : (i : Incidence) → Rooted ts i → (v : ℕ) (mark turn : ℕ → ℕ) → Fine i v mark turn → (row : ℕ) → Ringed i v turn row
-      → Ringed i (suc v) (joined i v mark turn).turn (ring_row (with_turn (joined i v mark turn).turn i) v row)
-  unfolding ring_row
-  ringed_next i R v mark turn I row G =
+  ringed_next : (i : Incidence) → Rooted ts i → (v : ℕ) (mark turn : ℕ → ℕ) → Fine i v mark turn → (rings : Bool) → Ringed i v turn rings
+      → Ringed i (suc v) (joined i v mark turn).turn (one_ring (with_turn (joined i v mark turn).turn i) v && rings)
+  ringed_next i R v mark turn I rings G both w h =
       let turn' = (joined i v mark turn).turn in
       let before : (w : ℕ) → w < v → one_ring (with_turn turn i) w ≡ true → one_ring (with_turn turn' i) w ≡ true = λ w h e.
       ring-same turn turn' (λ d. (d < length ts) × (org ts d ≡ w))
       (λ d m. joined_keeps ts i v mark turn I.rest d (λ q. omega (arith, m.1, q)))
       (λ d m. let f = I.done d m.0 (omega (arith, m.1)) in (f.0, f.1 ∙ tip-prev d ∙ m.1))
       i w (λ k. outgoing_in ts w (R.dart w k)) e in
-      elim (tested (one_ring (with_turn turn' i) v)) [
-        | inl c ↦
-            rw c record {
-              not5 = G.not5;
-              not6 = G.not6;
-              rings = λ z w h. elim (ℕ_discrete w v) [
-                | yes q ↦ rw q c
-                | no q ↦ let l : w < v = omega (arith, q) in before w l (G.rings z w l)
-              ];
-            }
-        | inr c ↦ rw c record { not5 = λ q. omega (arith, q); not6 = λ q. omega (arith, q); rings = λ z. absurd (omega (arith, z)) }
+      elim (ℕ_discrete w v) [
+        | yes q ↦ rw q (and_both (one_ring (with_turn turn' i) v) rings both).0
+        | no q ↦
+            let l : w < v = omega (arith, q) in
+            before w l (G (and_both (one_ring (with_turn turn' i) v) rings both).1 w l)
       ]
 
-  -- What a round of n vertices says of rows 5 and 6; where they find nothing, a dart's turn is the opposite of the dart before it, and with 0 each vertex
-  -- has one ring.
+  -- What a round of n vertices says of rows 5 and 6. Where they find nothing, a dart's turn is the opposite of the dart before it, and each vertex has one
+  -- ring, where the round says so.
   pub data Told (n : ℕ) (i : Incidence) (r : Round) : Type 0 where
-    twice : r.row ≡ 5 → row5 ts ≡ true → Told n i r
-    lacking : r.row ≡ 6 → row5 ts ≡ false → row6 ts ≡ true → Told n i r
-    paired : (r.row ≡ 5 → ⊥) → (r.row ≡ 6 → ⊥) → row5 ts ≡ false → row6 ts ≡ false → ((d : ℕ) → d < length ts → r.turn d ≡ opp ts (prev d))
-        → (r.row ≡ 0 → (v : ℕ) → v < n → one_ring (with_turn r.turn i) v ≡ true) → Told n i r
+    twice : r.answer ≡ Err RepeatedSide → row5 ts ≡ true → Told n i r
+    lacking : r.answer ≡ Err UnpairedSide → row5 ts ≡ false → row6 ts ≡ true → Told n i r
+    paired : (rings : Bool) → r.answer ≡ Ok rings → row5 ts ≡ false → row6 ts ≡ false → ((d : ℕ) → d < length ts → r.turn d ≡ opp ts (prev d))
+        → Ringed i n r.turn rings → Told n i r
 
   module _ (T : ℕ) (whole : length ts ≡ 3 * T) (few : length ts ≤ 65536) (n : ℕ) (small : (d : ℕ) → org ts d < n) (i : Incidence)
       (O : Origins ts i.origin) (R : Rooted ts i) where
-    all_done : (mark turn : ℕ → ℕ) (row : ℕ) → Fine i n mark turn → Ringed i n turn row → Told n i (record { row = row; turn = turn; mark = mark })
-    all_done mark turn row I G =
+    all_done : (mark turn : ℕ → ℕ) (rings : Bool) → Fine i n mark turn → Ringed i n turn rings
+        → Told n i (record { answer = Ok rings; turn = turn; mark = mark })
+    all_done mark turn rings I G =
         let f : (d : ℕ) → d < length ts → Facing (prev d) (turn d) = λ d h. I.done d h (small d) in
         let none5 = apart_row5 ts n small I.once in
-        paired G.not5 G.not6 none5
+        paired rings refl none5
         ((row6_means ts).1 (λ e h.
         let r = f (next e) (omega (arith, next-below T e (omega arith))) in
         (turn (next e), r.0, rw (prev-next e) at r.1, rw (prev-next e) at r.2)))
         (λ d h. let r = f d h in sym (opp_is ts ((row5_means ts).0 none5) (prev d) (turn d) r.0 r.1 r.2))
-        G.rings
+        G
 
-    join_all_from : (k v : ℕ) (mark turn : ℕ → ℕ) (row : ℕ) → v + k ≡ n → Fine i v mark turn → Ringed i v turn row →
-        Told n i (join_all i k v mark turn row)
+    join_all_from : (k v : ℕ) (mark turn : ℕ → ℕ) (rings : Bool) → v + k ≡ n → Fine i v mark turn → Ringed i v turn rings →
+        Told n i (join_all i k v mark turn rings)
     unfolding join_all with_turn with_mark
-    join_all_from zero v mark turn row q I G = let z : v ≡ n = omega arith in all_done mark turn row (rw z at I) (rw z at G)
-    join_all_from (suc k) v mark turn row q I G =
+    join_all_from zero v mark turn rings q I G = let z : v ≡ n = omega arith in all_done mark turn rings (rw z at I) (rw z at G)
+    join_all_from (suc k) v mark turn rings q I G =
         let r = scanned i v mark turn in
         let j = joined i v mark turn in
         let later = with_turn j.turn (with_mark r.mark i) in
@@ -337,12 +335,10 @@ module _ (ts : List ℕ) where
                           (joined_lacks T whole few i O v mark turn I c b))
                     ]
                 | inr b ↦
-                    rw (c, b) (join_all_from k (suc v) r.mark j.turn (ring_row (with_turn j.turn i) v row) (omega arith)
-                    (joined_fine T whole few i O v mark turn I c b) (ringed_next i R v mark turn I row G))
+                    rw (c, b) (join_all_from k (suc v) r.mark j.turn (one_ring (with_turn j.turn i) v && rings) (omega arith)
+                    (joined_fine T whole few i O v mark turn I c b) (ringed_next i R v mark turn I rings G))
               ]
         ]
 
-    pub join_all_told : Bucketed ts i → Before 0 i.mark → Told n i (join_all i n 0 i.mark i.turn 0)
-    join_all_told B M =
-        join_all_from n 0 i.mark i.turn 0 (omega arith) (fine_start i B M)
-        record { not5 = λ q. omega (arith, q); not6 = λ q. omega (arith, q); rings = λ z w h. absurd (omega arith) }
+    pub join_all_told : Bucketed ts i → Before 0 i.mark → Told n i (join_all i n 0 i.mark i.turn true)
+    join_all_told B M = join_all_from n 0 i.mark i.turn true (omega arith) (fine_start i B M) (λ _ w h. absurd (omega arith))

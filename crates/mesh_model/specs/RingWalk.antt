@@ -38,10 +38,6 @@ first_broken-step i k v b e = ap (λ (b : Option Refusal). elim b [ some why ↦
 unfoldable pub one_ring : Incidence → ℕ → Bool
 one_ring i v = cond (eqb (i.number v) 0) false (not (returns_within i.turn (i.first v) (i.number v - 1) (i.first v)))
 
--- the row that is found with v too: 7 where it has not one ring, whichever of 7 and 25 that is
-unfoldable pub ring_row : Incidence → ℕ → ℕ → ℕ
-ring_row i v row = cond (one_ring i v) row 7
-
 -- Turns that are the same at the darts of v, which they do not leave, leave its ring as it was.
 module _ (turn turn' : ℕ → ℕ) (In : ℕ → Type 0) (same : (d : ℕ) → In d → turn' d ≡ turn d) (stays : (d : ℕ) → In d → In (turn d)) where
   returns_within-same : (h k d : ℕ) → In d → returns_within turn' h k d ≡ returns_within turn h k d

@@ -1,5 +1,5 @@
 -- Row 3 by the highest vertex number. Assumes nothing.
-use Rattle.std.specs.Prelude.{ℕ, ◌+◌, ◌≤◌, ◌<◌, max, ◌≡◌, refl, ◌⊎◌, List, leb, length, get_or}
+use Rattle.std.specs.Prelude.{ℕ, ◌+◌, ◌≤◌, ◌<◌, max, ◌≡◌, ◌⊎◌, List, leb, length, get_or}
 use Rattle.std.proofs.Math.Path.{sym}
 use Rattle.std.proofs.Common.{◌∙◌, arith}
 use Rattle.std.proofs.Math.Logic.{inl, inr}
@@ -13,19 +13,16 @@ pub record Highest (ts : List ℕ) (highest d : ℕ) : Type 0 where
   pub above : (e : ℕ) → e < d → org ts e ≤ highest
   pub there : (highest ≡ 0) ⊎ ((e : ℕ) × (e < d) × (org ts e ≡ highest))
 
-pub highest_none : (ts : List ℕ) → Highest ts 0 0
-highest_none ts = record { above = λ e h. absurd (omega arith); there = inl refl }
-
-pub highest_next : (ts : List ℕ) (highest d v r : ℕ) → v ≡ get_or ts d 0 → r ≡ max highest v → Highest ts highest d → Highest ts r (d + 1)
+pub highest_next : (ts : List ℕ) (highest d r : ℕ) → r ≡ max highest (get_or ts d 0) → Highest ts highest d → Highest ts r (d + 1)
 unfolding org
-highest_next ts highest d v r e q H =
+highest_next ts highest d r q H =
     record {
       above = λ x h. elim (ℕ_discrete x d) [
-        | yes z ↦ rw z (omega (arith, e, q))
+        | yes z ↦ rw z (omega (arith, q))
         | no z ↦ omega (arith, q, H.above x (omega (arith, z)))
       ];
-      there = elim (dec_le highest v) [
-        | yes l ↦ inr (d, omega arith, omega (arith, e, q))
+      there = elim (dec_le highest (get_or ts d 0)) [
+        | yes l ↦ inr (d, omega arith, omega (arith, q, l))
         | no l ↦ elim H.there [
           | inl z ↦ inl (omega (arith, l))
           | inr w ↦ inr (w.0, omega (arith, w.1), omega (arith, w.2, q, l))

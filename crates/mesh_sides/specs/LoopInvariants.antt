@@ -1,13 +1,14 @@
 -- What is known at each iteration of the loops that fill the lists and of rows 5 and 6: what is left to do from here gives what the whole gives.
 -- Assumes nothing.
 use Prim.Native.Nat.{ℕ, suc, ◌+◌, ◌-◌, ◌*◌, ◌/◌, ◌%◌, ◌≤◌, ◌<◌}
-use Rattle.std.specs.Prelude.{◌≡◌, Bool, List, ◌∷◌, length, ℤ}
+use Rattle.std.specs.Prelude.{◌≡◌, Bool, ◌&&◌, leb, List, ◌∷◌, length, ℤ, Result, Ok, Err}
+use Rattle.std.specs.Int.{from_bool}
 use Rattle.std.proofs.Math.Path.{refl, sym, ap}
 use Rattle.std.proofs.Common.{◌∙◌}
 use Rattle.std.proofs.Math.Bool.{true, false, cond}
 use native.Mathlib.Omega.{arith}
-use Rattle.std.proofs.Math.Decide.{dec_lt}
-use borrow.Author.Tests.{eq-eqb, ne_eqb}
+use Rattle.std.proofs.Math.Decide.{dec_lt, dec_le}
+use borrow.Author.Tests.{eq-eqb, ne_eqb, le-leb, lt-leb}
 use Rattle.definitions.specs.Mesh.{next, prev, org, row4, fronted}
 use Rattle.theory_sphere.specs.Fronted.{listed, listed-outer, listed-moved, listed_kept, length-fronted}
 use Rattle.laws.specs.Lists.{clash}
@@ -17,9 +18,11 @@ use Rattle.mesh_model.specs.IncidenceLists.{chain, list_at, put_first, push, fil
 use Rattle.mesh_model.specs.Bounds.{Bounded, bounded_mark, bounded_turn}
 use Rattle.mesh_model.specs.DuplicateSides.{Scan, noted, noted-dart, is_of, clashes, scan, scan_all, scan_clash, scan-on}
 use Rattle.mesh_model.specs.Opposites.{Join, Round, facing, meets, join, scanned, joined, join_all}
-use Rattle.mesh_model.specs.RingWalk.{one_ring, ring_row}
+use Rattle.mesh_model.specs.RingWalk.{one_ring}
 use Rattle.mesh_rings.specs.RingLoops.{Rounding}
 use Rattle.mesh_sides.specs.RepeatedVertex.{repeated_at, repeated_in, repeated_is, NoLoops, loop_found, loops-none, no_loops}
+use Rattle.mesh_answer.specs.declared.Refusal.{Refusal}
+use Rattle.mesh_answer.specs.declared.Refusal.TheVariants.{RepeatedSide, UnpairedSide}
 use Rattle.mesh_sides.specs.Room.{Pushing, PushingThree, corner_is, PushingAt, Fillable, Filling, Beside, AtVertex, Ready, beside_next, beside_prev}
 
 -- ---- lists are filled from the last triangle down to that of dart d
@@ -93,11 +96,11 @@ module _ (outer_place : ℕ) (ts : List ℕ) where
     third_is : c ≡ org mesh (d + 2)
     third_is = corner_is P place is 2 c (omega arith) ct
 
-    found_is : (r : Bool) → r ≡ repeated_in a b c → r ≡ repeated_at mesh d
-    found_is r e = e ∙ repeated_is mesh d a b c P.first first_is second_is third_is
+    found_is : (r : Bool) → repeated_in a b c ≡ r → r ≡ repeated_at mesh d
+    found_is r e = sym e ∙ repeated_is mesh d a b c P.first first_is second_is third_is
 
-    pub three-repeated : (r : Bool) → r ≡ repeated_in a b c → r ≡ true → ThreePushed mesh s s d true
-    three-repeated r e t = record { found = sym t ∙ found_is r e; same = λ q. clash refl q }
+    pub three-repeated : repeated_in a b c ≡ true → ThreePushed mesh s s d true
+    three-repeated e = record { found = found_is true e; same = λ q. clash refl q }
 
     room : (s' : List ℤ) (e v : ℕ) → e < 3 → v ≡ org mesh (d + e) → v < 65536 → length s' ≡ length s → Counted mesh (d + e + 1) (incidence s')
         → Pushing s' (d + e) v
@@ -140,20 +143,19 @@ module _ (outer_place : ℕ) (ts : List ℕ) where
         unfolding push
         put_first_lem s₃ e₃ = rw (sym first_is) e₃
 
-        pub three_pushed : (r : Bool) → r ≡ repeated_in a b c → r ≡ false → (s₃ : List ℤ) → incidence s₃ ≡ put_first d a (incidence s₂)
-            → ThreePushed mesh s s₃ d false
-        three_pushed r e f s₃ e₃ = record {
-          found = sym f ∙ found_is r e;
+        pub three_pushed : repeated_in a b c ≡ false → (s₃ : List ℤ) → incidence s₃ ≡ put_first d a (incidence s₂) → ThreePushed mesh s s₃ d false
+        three_pushed e s₃ e₃ = record {
+          found = found_is false e;
           same = λ _. put_first_lem s₃ e₃ ∙ ap (push mesh d) (put_second ∙ ap (push mesh (d + 1)) put_third);
         }
 
-  -- ---- the loops over the triangles behind the outer one, which keep their places, and over those before it, which have each moved by one
+  -- ---- the loop over triangles behind the outer one, which keep their places, or over those before it, which have each moved by one
 
-  module _ (s₀ : List ℤ) where
-    pub filled_start : (high : ℕ) → Fillable outer_place ts s₀ high → Filled mesh s₀ s₀ high high
-    filled_start high F = record {
+  module _ (s₀ : List ℤ) (low high : ℕ) (F : Fillable outer_place ts s₀ low high) where
+    pub filled_start : Filled mesh s₀ s₀ (3 * high) (3 * high)
+    filled_start = record {
       long = refl;
-      first = F.whole;
+      first = omega arith;
       low = omega arith;
       top = omega (arith, F.top, as_long);
       count = F.count;
@@ -161,134 +163,123 @@ module _ (outer_place : ℕ) (ts : List ℕ) where
       rest = refl;
     }
 
-    pub filled_end : (s : List ℤ) (high d low : ℕ) → d ≤ low → low ≤ d → Filled mesh s₀ s high d → FilledTo mesh s₀ s high low false
-    filled_end s high d low h l I = let z : d ≡ low = omega arith in record { found = λ q. clash q refl; filled = λ _. rw z at I }
-
-    -- the next triangle
-    module _ (s : List ℤ) (high d : ℕ) (F : Fillable outer_place ts s₀ high) (I : Filled mesh s₀ s high d) where
-      pushing : 0 < d → PushingThree outer_place ts s (d - 3)
-      pushing h =
-          let z : d ≡ d - 3 + 3 = omega (arith, I.first) in
+    -- those from t on are; the one before is next
+    module _ (s : List ℤ) (t : ℕ) (some : 0 < t) (I : Filled mesh s₀ s (3 * high) (3 * t)) where
+      pushing : PushingThree outer_place ts s (3 * (t - 1))
+      pushing =
+          let z : 3 * t ≡ 3 * (t - 1) + 3 = omega arith in
           record {
             there = F.there;
-            first = omega (arith, I.first);
-            three = omega (arith, I.first, I.low, F.top);
+            first = omega arith;
+            three = omega (arith, I.low, F.top);
             few = F.few;
             darts = omega (arith, F.darts, I.long);
             vertex = λ e. rw I.long (F.vertex e);
             count = rw z at I.count;
           }
 
-      pub behind_pushing : 3 * outer_place + 3 < d → PushingAt ts s (d - 3) (d - 3)
-      behind_pushing h = record {
-        outer_place = outer_place;
-        room = pushing (omega arith);
-        is = sym (listed_kept outer_place (d - 3) (omega (arith, I.first)));
-      }
-
-      pub before_pushing : 3 < d → d ≤ 3 * outer_place + 3 → PushingAt ts s (d - 3 - 3) (d - 3)
-      before_pushing h l = record {
-        outer_place = outer_place;
-        room = pushing (omega arith);
-        is = sym (listed-moved outer_place (d - 3) (omega (arith, I.first)) (omega arith));
-      }
-
       -- after it
-      module _ (h : 0 < d) (s' : List ℤ) (r : Bool) (P : ThreePushed mesh s s' (d - 3) r) where
-        low_three : d - 3 + 2 < length mesh
-        low_three = omega (arith, h, I.first, I.low, I.top)
+      module _ (s' : List ℤ) (r : Bool) (P : ThreePushed mesh s s' (3 * (t - 1)) r) where
+        low_three : 3 * (t - 1) + 2 < length mesh
+        low_three = omega (arith, I.low, I.top)
 
         twice : r ≡ true → row4 mesh ≡ true
-        twice e = loop_found mesh (d - 3) low_three (sym P.found ∙ e)
+        twice e = loop_found mesh (3 * (t - 1)) low_three (sym P.found ∙ e)
 
-        next_filled : r ≡ false → length s' ≡ length s → Filled mesh s₀ s' high (d - 3)
+        next_filled : r ≡ false → length s' ≡ length s → Filled mesh s₀ s' (3 * high) (3 * (t - 1))
         next_filled e l =
-            let z : d ≡ d - 3 + 3 = omega (arith, h, I.first) in
+            let z : 3 * t ≡ 3 * (t - 1) + 3 = omega arith in
             record {
               long = l ∙ I.long;
-              first = omega (arith, I.first);
+              first = omega arith;
               low = omega (arith, I.low);
               top = I.top;
-              count = rw (P.same e) (three_counts mesh (d - 3) (incidence s) (rw z at I.count));
-              clean = loops-none mesh (d - 3) low_three high (sym P.found ∙ e) (rw z at I.clean);
-              rest = rw (P.same e) (sym (three-fill mesh (d - 3) (incidence s)) ∙ (rw z at I.rest));
+              count = rw (P.same e) (three_counts mesh (3 * (t - 1)) (incidence s) (rw z at I.count));
+              clean = loops-none mesh (3 * (t - 1)) low_three (3 * high) (sym P.found ∙ e) (rw z at I.clean);
+              rest = rw (P.same e) (sym (three-fill mesh (3 * (t - 1)) (incidence s)) ∙ (rw z at I.rest));
             }
 
-      module _ (h : 3 * outer_place + 3 < d) (s' : List ℤ) (r : Bool)
-          (P : (A : PushingAt ts s (d - 3) (d - 3)) → ThreePushed (fronted A.outer_place ts) s s' (d - 3) r) where
-        pub behind_twice : r ≡ true → (s'' : List ℤ) (low : ℕ) → FilledTo mesh s₀ s'' high low true
-        unfolding behind_pushing
-        behind_twice e s'' low = record { found = λ _. twice (omega arith) s' r (P (behind_pushing h)) e; filled = λ q. clash refl q }
+    module _ (s : List ℤ) (t moved : ℕ) (e : moved ≡ from_bool (leb low outer_place)) (h : low < t) (l : t ≤ high)
+        (I : Filled mesh s₀ s (3 * high) (3 * t)) where
+      stands : 3 * (t - 1 - moved) ≡ listed outer_place (3 * (t - 1))
+      stands = elim (dec_le low outer_place) [
+        | yes m ↦
+            let one : moved ≡ 1 = e ∙ ap from_bool (le-leb low outer_place m) in
+            omega (arith, F.side m, listed-moved outer_place (3 * (t - 1)) (omega (arith, F.some)) (omega (arith, F.side m)))
+        | no m ↦
+            let none : moved ≡ 0 = e ∙ ap from_bool (lt-leb low outer_place (omega (arith, m))) in
+            omega (arith, listed_kept outer_place (3 * (t - 1)) (omega (arith, m)))
+      ]
 
-        pub behind_next : r ≡ false → length s' ≡ length s → Filled mesh s₀ s' high (d - 3)
-        unfolding behind_pushing
-        behind_next e l = next_filled (omega arith) s' r (P (behind_pushing h)) e l
+      pub between_pushing : PushingAt ts s (3 * (t - 1 - moved)) (3 * (t - 1))
+      between_pushing = record { outer_place = outer_place; room = pushing s t (omega arith) I; is = stands }
 
-      module _ (h : 3 < d) (m : d ≤ 3 * outer_place + 3) (s' : List ℤ) (r : Bool)
-          (P : (A : PushingAt ts s (d - 3 - 3) (d - 3)) → ThreePushed (fronted A.outer_place ts) s s' (d - 3) r) where
-        pub before-twice : r ≡ true → (s'' : List ℤ) (low : ℕ) → FilledTo mesh s₀ s'' high low true
-        unfolding before_pushing
-        before-twice e s'' low = record { found = λ _. twice (omega arith) s' r (P (before_pushing h m)) e; filled = λ q. clash refl q }
+      module _ (s' : List ℤ) (r : Bool)
+          (P : (A : PushingAt ts s (3 * (t - 1 - moved)) (3 * (t - 1))) → ThreePushed (fronted A.outer_place ts) s s' (3 * (t - 1)) r) where
+        pub between_twice : r ≡ true → (s'' : List ℤ) (to : ℕ) → FilledTo mesh s₀ s'' (3 * high) to true
+        unfolding between_pushing
+        between_twice f s'' to = record { found = λ _. twice s t (omega arith) I s' r (P between_pushing) f; filled = λ q. clash refl q }
 
-        pub before-next : r ≡ false → length s' ≡ length s → Filled mesh s₀ s' high (d - 3)
-        unfolding before_pushing
-        before-next e l = next_filled (omega arith) s' r (P (before_pushing h m)) e l
+        pub between_next : r ≡ false → length s' ≡ length s → Filled mesh s₀ s' (3 * high) (3 * (t - 1))
+        unfolding between_pushing
+        between_next f m = next_filled s t (omega arith) I s' r (P between_pushing) f m
 
   -- ---- all triangles: those behind the outer one, those before it, and the outer one
 
   module _ (s₀ : List ℤ) (R : (3 * outer_place + 3 ≤ length ts) × Filling mesh s₀) where
-    pub can_fill_behind : Fillable outer_place ts s₀ (length ts)
+    count_is : 3 * (length ts / 3) ≡ length mesh
+    count_is = omega (arith, as_long, R.1.whole)
+
+    pub can_fill_behind : Fillable outer_place ts s₀ (outer_place + 1) (length ts / 3)
     can_fill_behind =
         let F = R.1 in
         record {
           there = R.0;
-          whole = omega (arith, F.whole, as_long);
-          top = omega arith;
+          some = omega arith;
+          order = omega (arith, R.0);
+          side = λ h. omega (arith, h);
+          top = omega (arith, count_is, as_long);
           few = omega (arith, F.few, as_long);
           darts = omega (arith, F.darts, as_long);
           vertex = F.vertex;
-          count = λ v. omega (arith, empty_counts mesh (incidence s₀) F.empty v, as_long);
+          count = λ v. omega (arith, empty_counts mesh (incidence s₀) F.empty v, count_is);
         }
 
-    module _ (s₁ : List ℤ) (r₁ : Bool) (A : FilledTo mesh s₀ s₁ (length ts) (3 * outer_place + 3) r₁) where
-      pub behind_found : r₁ ≡ true → (s : List ℤ) → AllFilled mesh s₀ s true
-      behind_found e s = record { found = sym (A.found e); same = λ q. clash refl q }
-
+    module _ (s₁ : List ℤ) (r₁ : Bool) (A : FilledTo mesh s₀ s₁ (3 * (length ts / 3)) (3 * (outer_place + 1)) r₁) where
       module _ (e₁ : r₁ ≡ false) where
-        pub can_fill-before : Fillable outer_place ts s₁ (3 * outer_place + 3)
+        pub can_fill-before : Fillable outer_place ts s₁ 1 (outer_place + 1)
         can_fill-before =
             let I = A.filled e₁ in
             record {
               there = R.0;
-              whole = I.first;
-              top = R.0;
+              some = omega arith;
+              order = omega arith;
+              side = λ _. omega arith;
+              top = omega (arith, R.0);
               few = can_fill_behind.few;
               darts = omega (arith, can_fill_behind.darts, I.long);
               vertex = λ d. rw I.long (can_fill_behind.vertex d);
               count = I.count;
             }
 
-        module _ (s₂ : List ℤ) (r₂ : Bool) (B : FilledTo mesh s₁ s₂ (3 * outer_place + 3) 3 r₂) where
-          pub before-found : r₂ ≡ true → (s : List ℤ) → AllFilled mesh s₀ s true
-          before-found e s = record { found = sym (B.found e); same = λ q. clash refl q }
-
+        module _ (s₂ : List ℤ) (r₂ : Bool) (B : FilledTo mesh s₁ s₂ (3 * (outer_place + 1)) (3 * 1) r₂) where
           module _ (e₂ : r₂ ≡ false) where
-            both : Filled mesh s₀ s₂ (length ts) 3
+            both : Filled mesh s₀ s₂ (3 * (length ts / 3)) (3 * 1)
             both =
                 let I = A.filled e₁ in
                 let J = B.filled e₂ in
                 record {
                   long = J.long ∙ I.long;
                   first = J.first;
-                  low = omega (arith, R.0);
+                  low = omega (arith, R.0, count_is, as_long);
                   top = I.top;
                   count = J.count;
-                  clean = λ e h l. elim (dec_lt e (3 * outer_place + 3)) [ yes k ↦ J.clean e h k | no k ↦ I.clean e (omega (arith, k)) l ];
+                  clean = λ e h l. elim (dec_lt e (3 * (outer_place + 1))) [ yes k ↦ J.clean e h k | no k ↦ I.clean e (omega (arith, k)) l ];
                   rest = J.rest ∙ I.rest;
                 }
 
             outer_room : PushingThree outer_place ts s₂ 0
-            outer_room = pushing s₀ s₂ (length ts) 3 can_fill_behind both (omega arith)
+            outer_room = pushing s₀ (outer_place + 1) (length ts / 3) can_fill_behind s₂ 1 (omega arith) both
 
             pub outer_pushing : PushingAt ts s₂ (3 * outer_place) 0
             outer_pushing = record { outer_place = outer_place; room = outer_room; is = omega (arith, listed-outer outer_place 0 (omega arith)) }
@@ -303,14 +294,14 @@ module _ (outer_place : ℕ) (ts : List ℕ) where
 
                 go : (b : Bool) → r ≡ b → AllFilled mesh s₀ s₃ r
                 go true e = record {
-                  found = e ∙ sym (twice s₀ s₂ (length ts) 3 can_fill_behind both (omega arith) s₃ r P e);
+                  found = e ∙ sym (twice s₀ (outer_place + 1) (length ts / 3) can_fill_behind s₂ 1 (omega arith) both s₃ r P e);
                   same = λ q. clash e q;
                 }
                 go false e =
-                    let I = next_filled s₀ s₂ (length ts) 3 can_fill_behind both (omega arith) s₃ r P e l in
+                    let I = next_filled s₀ (outer_place + 1) (length ts / 3) can_fill_behind s₂ 1 (omega arith) both s₃ r P e l in
                     record {
-                      found = e ∙ sym (no_loops mesh (rw as_long I.clean));
-                      same = λ _. I.rest ∙ ap (λ (k : ℕ). fill mesh k (incidence s₀)) (sym as_long);
+                      found = e ∙ sym (no_loops mesh (rw count_is at I.clean));
+                      same = λ _. I.rest ∙ ap (λ (k : ℕ). fill mesh k (incidence s₀)) count_is;
                     }
 
 -- ---- tables that differ in one table only
@@ -663,22 +654,22 @@ module _ (s₀ : List ℤ) (v k h : ℕ) (a : k ≡ (incidence s₀).number v) (
 -- ---- both, vertex by vertex
 
 abbrev pub joined_all : ℕ → Incidence → Round
-joined_all n i = join_all i n 0 i.mark i.turn 0
+joined_all n i = join_all i n 0 i.mark i.turn true
 
--- `row` is 7 where a vertex before v has not one ring
-pub record Matching (n : ℕ) (s₀ s : List ℤ) (v row : ℕ) : Type 0 where
+-- `rings` says that each vertex before v has one ring
+pub record Matching (n : ℕ) (s₀ s : List ℤ) (v : ℕ) (rings : Bool) : Type 0 where
   pub long : length s ≡ length s₀
   pub bounds : Keeps s₀ s
   pub same : incidence s ≡ with_turn (incidence s).turn (with_mark (incidence s).mark (incidence s₀))
-  pub rest : join_all (incidence s₀) (n - v) v (incidence s).mark (incidence s).turn row ≡ joined_all n (incidence s₀)
+  pub rest : join_all (incidence s₀) (n - v) v (incidence s).mark (incidence s).turn rings ≡ joined_all n (incidence s₀)
 
--- the row that is found, and the tables where that is not 5 or 6
-pub record AllMatched (n : ℕ) (s s' : List ℤ) (r : ℕ) : Type 0 where
-  pub row : r ≡ (joined_all n (incidence s)).row
-  pub same : (r ≡ 5 → ⊥) → (r ≡ 6 → ⊥)
+-- what is found, and the tables where that is neither of rows 5 and 6
+pub record AllMatched (n : ℕ) (s s' : List ℤ) (r : Result Bool Refusal) : Type 0 where
+  pub answer : r ≡ (joined_all n (incidence s)).answer
+  pub same : (rings : Bool) → r ≡ Ok rings
       → incidence s' ≡ with_turn (joined_all n (incidence s)).turn (with_mark (joined_all n (incidence s)).mark (incidence s))
 
-pub matching_start : (n : ℕ) (s : List ℤ) → Matching n s s 0 0
+pub matching_start : (n : ℕ) (s : List ℤ) → Matching n s s 0 true
 unfolding with_mark with_turn
 matching_start n s =
     let z : n - 0 ≡ n = omega arith in
@@ -686,10 +677,10 @@ matching_start n s =
       long = refl;
       bounds = λ T B. B;
       same = refl;
-      rest = ap (λ (j : ℕ). join_all (incidence s) j 0 (incidence s).mark (incidence s).turn 0) z;
+      rest = ap (λ (j : ℕ). join_all (incidence s) j 0 (incidence s).mark (incidence s).turn true) z;
     }
 
-module _ (n : ℕ) (s₀ s : List ℤ) (v row : ℕ) (h : v < n) (I : Matching n s₀ s v row) where
+module _ (n : ℕ) (s₀ s : List ℤ) (v : ℕ) (rings : Bool) (h : v < n) (I : Matching n s₀ s v rings) where
   pub matching_at : Ready n s₀ → AtVertex s v
   matching_at R = ready_at n s₀ s v R h I.long I.bounds
 
@@ -705,13 +696,13 @@ module _ (n : ℕ) (s₀ s : List ℤ) (v row : ℕ) (h : v < n) (I : Matching n
 
   -- after the marks
   module _ (s₁ : List ℤ) (r : Bool) (M : Marked s s₁ v r) where
-    pub matching_twice : r ≡ true → (s' : List ℤ) → AllMatched n s₀ s' 5
+    pub matching_twice : r ≡ true → (s' : List ℤ) → AllMatched n s₀ s' (Err RepeatedSide)
     unfolding join_all one
     matching_twice e s' =
         let z : n - v ≡ suc (n - suc v) = omega arith in
         let f : one.found ≡ true = sym (sym e ∙ M.found ∙ ap (λ (x : Scan). x.found) one_is) in
-        let w : record { row = 5; turn = (incidence s).turn; mark = one.mark } ≡ joined_all n (incidence s₀) = rw (z, f) at I.rest in
-        record { row = ap (λ (x : Round). x.row) w; same = λ n5 n6. absurd (n5 refl) }
+        let w : record { answer = Err RepeatedSide; turn = (incidence s).turn; mark = one.mark } ≡ joined_all n (incidence s₀) = rw (z, f) at I.rest in
+        record { answer = ap (λ (x : Round). x.answer) w; same = λ rings q. absurd (cc) }
 
     marked_keeps : Keeps s₀ s₁
     marked_keeps T B = rw I.long at (M.bounds T (rw I.long (I.bounds T B)))
@@ -754,17 +745,18 @@ module _ (n : ℕ) (s₀ s : List ℤ) (v row : ℕ) (h : v < n) (I : Matching n
             dart = λ k. record { darts = 3 * R.triangles; room = B.room; below = B.turn; at = B.first v };
           }
 
-      ring_is : ring_row (incidence s₂) v row ≡ ring_row (with_turn two.turn (incidence s₀)) v row
-      unfolding ring_row one_ring with_mark with_turn
-      ring_is = ap (λ (i : Incidence). ring_row i v row) tied_are
+      ring_is : one_ring (incidence s₂) v ≡ one_ring (with_turn two.turn (incidence s₀)) v
+      unfolding one_ring with_mark with_turn
+      ring_is = ap (λ (i : Incidence). one_ring i v) tied_are
 
-      pub matching_next : q ≡ false → length s₂ ≡ length s₁ → (row' : ℕ) → row' ≡ ring_row (incidence s₂) v row → Matching n s₀ s₂ (v + 1) row'
+      pub matching_next : q ≡ false → length s₂ ≡ length s₁ → (ring : Bool) → ring ≡ one_ring (incidence s₂) v
+          → Matching n s₀ s₂ (v + 1) (ring && rings)
       unfolding join_all one two with_mark with_turn
-      matching_next g m row' e' =
+      matching_next g m ring e' =
           let z : n - v ≡ suc (n - suc v) = omega arith in
           let y : v + 1 ≡ suc v = omega arith in
           let f : two.lacks ≡ false = sym (sym g ∙ J.lacks ∙ ap (λ (j : Join). j.lacks) two_is) in
-          let w : join_all (incidence s₀) (n - suc v) (suc v) one.mark two.turn (ring_row (with_turn two.turn (incidence s₀)) v row)
+          let w : join_all (incidence s₀) (n - suc v) (suc v) one.mark two.turn (one_ring (with_turn two.turn (incidence s₀)) v && rings)
           ≡ joined_all n (incidence s₀) = rw (z, clean, f) at I.rest in
           let a : (incidence s₂).mark ≡ one.mark = ap (λ (i : Incidence). i.mark) tied_are in
           let b : (incidence s₂).turn ≡ two.turn = ap (λ (i : Incidence). i.turn) tied_are in
@@ -786,31 +778,33 @@ module _ (n : ℕ) (s₀ s : List ℤ) (v row : ℕ) (h : v < n) (I : Matching n
             S.found ∙ ap (λ (x : ℕ). (scan_all (incidence s₂) (n - x) x (incidence s₂).mark).found) y
             ∙ ap (λ (i : Incidence). (scan_all i (n - suc v) (suc v) i.mark).found) tied_are
 
-        row_is : cond p 5 6 ≡ (joined_all n (incidence s₀)).row
+        answer_is : Err (cond p RepeatedSide UnpairedSide) ≡ (joined_all n (incidence s₀)).answer
         unfolding join_all one two
-        row_is =
+        answer_is =
             let z : n - v ≡ suc (n - suc v) = omega arith in
             let f : two.lacks ≡ true = sym (sym g ∙ J.lacks ∙ ap (λ (j : Join). j.lacks) two_is) in
             let w : record {
-              row = cond (scan_all (with_turn two.turn (with_mark one.mark (incidence s₀))) (n - suc v) (suc v) one.mark).found 5 6;
+              answer =
+                  Err (cond (scan_all (with_turn two.turn (with_mark one.mark (incidence s₀))) (n - suc v) (suc v) one.mark).found RepeatedSide
+                  UnpairedSide);
               turn = two.turn;
               mark = one.mark;
             }
             ≡ joined_all n (incidence s₀) = rw (z, clean, f) at I.rest in
-            ap (λ (b : Bool). cond b 5 6) goes_on ∙ ap (λ (x : Round). x.row) w
+            ap (λ (b : Bool). Err (cond b RepeatedSide UnpairedSide)) goes_on ∙ ap (λ (x : Round). x.answer) w
 
-        pub matching_later : p ≡ true → (s' : List ℤ) → AllMatched n s₀ s' 5
-        matching_later f s' = record { row = rw f at row_is; same = λ n5 n6. absurd (n5 refl) }
+        pub matching_later : p ≡ true → (s' : List ℤ) → AllMatched n s₀ s' (Err RepeatedSide)
+        matching_later f s' = record { answer = rw f at answer_is; same = λ rings q. absurd (cc) }
 
-        pub matching_lacks : p ≡ false → (s' : List ℤ) → AllMatched n s₀ s' 6
-        matching_lacks f s' = record { row = rw f at row_is; same = λ n5 n6. absurd (n6 refl) }
+        pub matching_lacks : p ≡ false → (s' : List ℤ) → AllMatched n s₀ s' (Err UnpairedSide)
+        matching_lacks f s' = record { answer = rw f at answer_is; same = λ rings q. absurd (cc) }
 
-pub matching_none : (n : ℕ) (s₀ s : List ℤ) (v row : ℕ) → n ≤ v → Matching n s₀ s v row → AllMatched n s₀ s row
+pub matching_none : (n : ℕ) (s₀ s : List ℤ) (v : ℕ) (rings : Bool) → n ≤ v → Matching n s₀ s v rings → AllMatched n s₀ s (Ok rings)
 unfolding join_all
-matching_none n s₀ s v row h I =
+matching_none n s₀ s v rings h I =
     let z : n - v ≡ 0 = omega arith in
-    let w : record { row = row; turn = (incidence s).turn; mark = (incidence s).mark } ≡ joined_all n (incidence s₀) = rw z at I.rest in
+    let w : record { answer = Ok rings; turn = (incidence s).turn; mark = (incidence s).mark } ≡ joined_all n (incidence s₀) = rw z at I.rest in
     record {
-      row = ap (λ (x : Round). x.row) w;
+      answer = ap (λ (x : Round). x.answer) w;
       same = λ _ _. I.same ∙ ap (λ (x : Round). with_turn x.turn (with_mark x.mark (incidence s₀))) w;
     }

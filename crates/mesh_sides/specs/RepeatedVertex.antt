@@ -1,5 +1,5 @@
 -- Row 4, triangle by triangle. Assumes nothing.
-use Rattle.std.specs.Prelude.{ℕ, ◌+◌, ◌%◌, ◌≤◌, ◌<◌, ◌≡◌, Bool, ◌||◌, List, eqb, length}
+use Rattle.std.specs.Prelude.{ℕ, ◌+◌, ◌%◌, ◌≤◌, ◌<◌, ◌≡◌, Bool, ◌||◌, ◌⊎◌, List, eqb, length}
 use Rattle.std.proofs.Math.Path.{refl}
 use Rattle.std.proofs.Common.{arith}
 use Rattle.std.proofs.Math.Bool.{true, false}
@@ -35,17 +35,15 @@ unfoldable pub repeated_in : ℕ → ℕ → ℕ → Bool
 repeated_in a b c = eqb a b || (eqb b c || eqb c a)
 
 module _ (a b c : ℕ) where
-  pub repeated-1 : a ≡ b → true ≡ repeated_in a b c
+  pub repeated_found : (a ≡ b) ⊎ (((a ≡ b → ⊥) × (b ≡ c)) ⊎ ((a ≡ b → ⊥) × (b ≡ c → ⊥) × (c ≡ a))) → repeated_in a b c ≡ true
   unfolding repeated_in
-  repeated-1 e = rw (eq-eqb a b e)
+  repeated_found (inl e) = rw (eq-eqb a b e)
+  repeated_found (inr (inl p)) = rw (ne_eqb a b p.0, eq-eqb b c p.1)
+  repeated_found (inr (inr p)) = rw (ne_eqb a b p.0, ne_eqb b c p.1, eq-eqb c a p.2)
 
-  pub repeated-2 : (a ≡ b → ⊥) → b ≡ c → true ≡ repeated_in a b c
+  pub repeated_none : (a ≡ b → ⊥) → (b ≡ c → ⊥) → (c ≡ a → ⊥) → repeated_in a b c ≡ false
   unfolding repeated_in
-  repeated-2 f e = rw (ne_eqb a b f, eq-eqb b c e)
-
-  pub repeated-3 : (a ≡ b → ⊥) → (b ≡ c → ⊥) → eqb c a ≡ repeated_in a b c
-  unfolding repeated_in
-  repeated-3 f g = rw (ne_eqb a b f, ne_eqb b c g)
+  repeated_none f g h = rw (ne_eqb a b f, ne_eqb b c g, ne_eqb c a h)
 
 -- which is so just where one of the three darts of their triangle runs from a vertex to itself
 pub repeated_is : (ts : List ℕ) (d a b c : ℕ) → d % 3 ≡ 0 → a ≡ org ts d → b ≡ org ts (d + 1) → c ≡ org ts (d + 2)

@@ -19,10 +19,6 @@ pub record Pushing (s : List ℤ) (d v : ℕ) : Type 0 where
   pub origin : v < 65536
   pub number : (incidence s).number v + 1 < 65536
 
--- the number of the darts of v, as the code reads it
-pub pushing_number : (s : List ℤ) (d v k : ℕ) → Pushing s d v → k ≡ (incidence s).number v → k + 1 < 65536
-pushing_number s d v k P r = rw r P.number
-
 -- the two stores that put a dart in front
 pub pushed : (d : ℕ) (s s₁ s₂ : List ℤ) (v f k : ℕ) → f ≡ (incidence s).first v → k ≡ (incidence s).number v
     → incidence s₁ ≡ set_dart d f v (incidence s) → incidence s₂ ≡ set_list v d (k + 1) (incidence s₁)
@@ -77,15 +73,18 @@ pub record PushingAt (ts : List ℕ) (s : List ℤ) (place d : ℕ) : Type 0 whe
   pub room : PushingThree outer_place ts s d
   pub is : place ≡ listed outer_place d
 
--- The darts below `high` have, and the lists hold those from there on at most.
-pub record Fillable (outer_place : ℕ) (ts : List ℕ) (s : List ℤ) (high : ℕ) : Type 0 where
+-- The triangles from `low` on and before `high` have: some behind the outer one, or some before it. The lists hold the darts of those from `high` on at
+-- most.
+pub record Fillable (outer_place : ℕ) (ts : List ℕ) (s : List ℤ) (low high : ℕ) : Type 0 where
   pub there : 3 * outer_place + 3 ≤ length ts
-  pub whole : high % 3 ≡ 0
-  pub top : high ≤ length ts
+  pub some : 0 < low
+  pub order : low ≤ high
+  pub side : low ≤ outer_place → high ≤ outer_place + 1
+  pub top : 3 * high ≤ length ts
   pub few : length ts < 65536
   pub darts : length ts ≤ past_darts (length s)
   pub vertex : (d : ℕ) → vertex_in (length s) (org (fronted outer_place ts) d)
-  pub count : Counted (fronted outer_place ts) high (incidence s)
+  pub count : Counted (fronted outer_place ts) (3 * high) (incidence s)
 
 -- every dart has, and the lists are empty
 pub record Filling (ts : List ℕ) (s : List ℤ) : Type 0 where
@@ -104,10 +103,6 @@ pub record Beside (s : List ℤ) (v e d : ℕ) : Type 0 where
   pub other : dart_in (length s) d
   pub vertex : vertex_in (length s) ((incidence s).origin d)
   pub small : v < 2 ^ 32
-
--- where d comes from, as the code reads it
-pub beside_vertex : (s : List ℤ) (v e d x w : ℕ) → Beside s v e d → x ≡ d → w ≡ (incidence s).origin x → vertex_in (length s) w
-beside_vertex s v e d x w B q r = let o : w ≡ (incidence s).origin d = r ∙ ap (incidence s).origin q in rw o B.vertex
 
 -- vertex v has its word, and all is in range
 pub record AtVertex (s : List ℤ) (v : ℕ) : Type 0 where

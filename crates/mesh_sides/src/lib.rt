@@ -3,34 +3,28 @@
 // number of times. The triangles are read until the lists are filled; from there on origins stand in scratch.
 #![tactic(auto)]
 
-ghost use Rattle.std.specs.Prelude.{◌≡◌, ◌+◌, ◌*◌, ◌≤◌, ◌<◌, max, length};
+ghost use Rattle.std.specs.Prelude.{◌≡◌, ◌+◌, ◌*◌, ◌≤◌, ◌<◌, length};
 ghost use Rattle.definitions.specs.Mesh.{next, prev, org, row3, fronted};
 ghost use Rattle.mesh_tables.specs.Incidence.{incidence};
 ghost use Rattle.mesh_model.specs.IncidenceLists.{put_first};
 ghost use Rattle.mesh_sides.specs.Room.{Pushing, PushingAt, Fillable, Filling, Beside, AtVertex, Ready};
 ghost use Rattle.mesh_sides.specs.LoopInvariants.{ThreePushed, FilledTo, AllFilled, Left, Marked, Scanned, Met, Tied, AllMatched};
-ghost use Rattle.mesh_sides.specs.RepeatedVertex.{repeated_in};
 
-use mesh_rings::ring_row;
+use mesh_answer::Refusal;
+use mesh_rings::has_ring;
 use mesh_tables::{
     dart_number, first_dart, mark, origin, set_dart, set_list, set_mark, set_turn, turn,
 };
 use scratch_tables::{next_dart, prev_dart};
 
 // the vertex at corner d
+#[tactic(auto, unfolding(definitions::specs::Mesh::org))]
 fn corner(triangles: &[u16], d: usize) -> usize
     requires { d < length triangles.now }
     ensures is { result ≡ org triangles.now d }
     ensures small { result < 65536 }
 {
-    int64::widen(triangles[d])
-}
-
-// the larger of two vertex numbers
-fn larger(a: u16, b: u16) -> u16
-    ensures { result ≡ max a b }
-{
-    if a < b { b } else { a }
+    usize::from(triangles[d])
 }
 
 // Row 3: a vertex number n or more. The highest of all is found first, without a test at each of them.
@@ -39,25 +33,10 @@ pub fn high_vertex(n: usize, triangles: &[u16]) -> bool
     ensures { result ≡ row3 triangles.now n }
 {
     let mut highest: u16 = 0;
-    let mut d = 0;
-    while d < triangles.len() {
-        highest = larger(highest, triangles[d]);
-        d += 1;
+    for &v in triangles {
+        highest = highest.max(v);
     }
-    n <= int64::widen(highest)
-}
-
-// Two of the three corners of a triangle are one vertex.
-fn repeated(a: usize, b: usize, c: usize) -> bool
-    ensures { result ≡ repeated_in a b c }
-{
-    if a == b {
-        return true;
-    }
-    if b == c {
-        return true;
-    }
-    c == a
+    n <= usize::from(highest)
 }
 
 // Dart d goes to the front of the list of v, its origin.
@@ -81,7 +60,7 @@ fn push_triangle(triangles: &[u16], s: &mut [i64], place: usize, d: usize) -> bo
     let a = corner(triangles, place);
     let b = corner(triangles, place + 1);
     let c = corner(triangles, place + 2);
-    if repeated(a, b, c) {
+    if a == b || b == c || c == a {
         return true;
     }
     push_dart(s, d + 2, c);
@@ -90,31 +69,15 @@ fn push_triangle(triangles: &[u16], s: &mut [i64], place: usize, d: usize) -> bo
     false
 }
 
-// The triangles behind the outer one keep their places.
-fn fill_behind(outer: usize, triangles: &[u16], s: &mut [i64]) -> bool
-    requires { Fillable outer triangles.now s.old (length triangles.now) }
-    ensures { FilledTo (fronted outer triangles.now) s.old s.new (length triangles.now)
-        (3 * outer + 3) result }
+// The triangles from number `low` on and before `high`, the last one first: some behind the outer one, which keep their places, or some before it, which
+// have each moved by one.
+fn fill_between(outer: usize, triangles: &[u16], s: &mut [i64], low: usize, high: usize) -> bool
+    requires { Fillable outer triangles.now s.old low high }
+    ensures { FilledTo (fronted outer triangles.now) s.old s.new (3 * high) (3 * low) result }
 {
-    let mut d = triangles.len();
-    while 3 * outer + 3 < d {
-        d -= 3;
-        if push_triangle(triangles, s, d, d) {
-            return true;
-        }
-    }
-    false
-}
-
-// Those before it have each moved by one.
-fn fill_before(outer: usize, triangles: &[u16], s: &mut [i64]) -> bool
-    requires { Fillable outer triangles.now s.old (3 * outer + 3) }
-    ensures { FilledTo (fronted outer triangles.now) s.old s.new (3 * outer + 3) 3 result }
-{
-    let mut d = 3 * outer + 3;
-    while 3 < d {
-        d -= 3;
-        if push_triangle(triangles, s, d - 3, d) {
+    let moved = usize::from(low <= outer);
+    for t in (low..high).rev() {
+        if push_triangle(triangles, s, 3 * (t - moved), 3 * t) {
             return true;
         }
     }
@@ -127,10 +90,10 @@ pub fn fill_incidence_lists(outer: usize, triangles: &[u16], s: &mut [i64]) -> b
     requires { (3 * outer + 3 ≤ length triangles.now) × Filling (fronted outer triangles.now) s.old }
     ensures { AllFilled (fronted outer triangles.now) s.old s.new result }
 {
-    if fill_behind(outer, triangles, s) {
+    if fill_between(outer, triangles, s, outer + 1, triangles.len() / 3) {
         return true;
     }
-    if fill_before(outer, triangles, s) {
+    if fill_between(outer, triangles, s, 1, outer + 1) {
         return true;
     }
     push_triangle(triangles, s, 3 * outer, 0)
@@ -157,13 +120,11 @@ fn mark_outgoing(s: &mut [i64], v: usize) -> bool
 {
     let k = dart_number(s, v);
     let mut e = first_dart(s, v);
-    let mut i = 0;
-    while i < k {
+    for _ in 0..k {
         if mark_neighbour(s, v, e) {
             return true;
         }
         e = turn(s, e);
-        i += 1;
     }
     false
 }
@@ -173,12 +134,10 @@ fn duplicate_side(n: usize, s: &mut [i64], u: usize) -> bool
     requires { Ready n s.old }
     ensures { Scanned u n s.old s.new result }
 {
-    let mut v = u;
-    while v < n {
+    for v in u..n {
         if mark_outgoing(s, v) {
             return true;
         }
-        v += 1;
     }
     false
 }
@@ -205,39 +164,37 @@ fn match_incoming(s: &mut [i64], v: usize) -> bool
 {
     let k = dart_number(s, v);
     let mut e = first_dart(s, v);
-    let mut i = 0;
-    while i < k {
+    for _ in 0..k {
         let link = turn(s, e);
-        if match_dart(s, v, e) {
-            e = link;
-            i += 1;
-        } else {
+        if !match_dart(s, v, e) {
             return true;
         }
+        e = link;
     }
     false
 }
 
-// Row 5, a side twice, or row 6, a side lacks its opposite; or the turns are stored, and the answer is 7 where a vertex has not one ring, and else 0.
-// The ring of a vertex is walked right after its darts have found their turns. Where an opposite is lacking the search for a side twice goes on alone.
-pub fn match_sides(n: usize, s: &mut [i64]) -> usize
+// Row 5, a side twice, or row 6, a side lacks its opposite; or the turns are stored, and the answer says whether each vertex has one ring. The ring of a
+// vertex is walked right after its darts have found their turns. Where an opposite is lacking the search for a side twice goes on alone.
+pub fn match_sides(n: usize, s: &mut [i64]) -> Result<bool, Refusal>
     requires { Ready n s.old }
     ensures { AllMatched n s.old s.new result }
 {
-    let mut v = 0;
-    let mut row = 0;
-    while v < n {
+    let mut rings = true;
+    for v in 0..n {
         if mark_outgoing(s, v) {
-            return 5;
+            return Err(Refusal::RepeatedSide);
         }
         if match_incoming(s, v) {
             if duplicate_side(n, s, v + 1) {
-                return 5;
+                return Err(Refusal::RepeatedSide);
             }
-            return 6;
+            return Err(Refusal::UnpairedSide);
         }
-        row = ring_row(s, v, row);
-        v += 1;
+        // `rings &= has_ring(s, v)` was tried: the walk round a vertex was slower.
+        if !has_ring(s, v) {
+            rings = false;
+        }
     }
-    row
+    Ok(rings)
 }

@@ -1,13 +1,11 @@
 -- What packmap prints, for each answer of a job; and that no more than 16,385 bytes of a text have to be read. Assumes nothing.
-use Rattle.std.specs.Prelude.{ℕ, ◌≤◌, ◌<◌, ◌^◌, Bool, take, replicate, ℤ, pos}
+use Rattle.std.specs.Prelude.{ℕ, ◌≤◌, ◌<◌, ◌^◌, Bool, take, ℤ, pos, Result, Ok, Err}
 use Rattle.std.proofs.Math.Path.{◌≡◌, refl}
-use Rattle.std.proofs.Common.{sym, ap, ◌∙◌, arith, length-take-le, Fits}
+use Rattle.std.proofs.Common.{sym, ap, ◌∙◌, arith, length-take-le}
 use Rattle.std.proofs.Math.Bool.{true, false}
 use mathlib.Core.List.{List, [], ◌∷◌, ◌++◌}
 use Rattle.std.proofs.Math.Dec.{ltb}
 use Rattle.std.proofs.Math.ListN.{length, drop}
-use Rattle.std.proofs.lemmas.List.{length-replicate}
-use Rattle.std.specs.Int.{w32}
 use borrow.Author.Tests.{ltb-true}
 use Rattle.definitions.specs.Answers.{Answer, done, refused, numbered, line_broken, Refusal, number}
 use Rattle.definitions.specs.Job.{bytes, write_line, run_job, line_of, told_with_text, prints}
@@ -15,10 +13,9 @@ use Rattle.text_model.specs.Numbers.{decimal_short}
 use Rattle.text_model.specs.Reading.{job_long}
 use Rattle.text_model.specs.Writing.{tabbed, Wrote, line_length, tabbed-more}
 use Rattle.job_call.specs.Model.{outcome}
-use Rattle.job_call.specs.Answer.{job_to_answer, Near}
-use Rattle.job_call.specs.Outcomes.{run-refused, near_line, listing_room}
-use Rattle.job_call.specs.declared.JobAnswer.{JobAnswer}
-use Rattle.job_call.specs.declared.JobAnswer.TheVariants.{Listed, Refused, Broken}
+use Rattle.job_call.specs.Answer.{job_to_refusal, job_to_answer}
+use Rattle.job_call.specs.Outcomes.{run-refused, listing_room}
+use Rattle.job_call.specs.declared.JobRefusal.{JobRefusal}
 
 -- the line of a refusal
 abbrev pub refusal_line : ℕ → ℕ → List ℕ
@@ -50,14 +47,6 @@ module _ (k l : ℕ) (xs : List ℤ) (is : xs ≡ pos k ∷ pos l ∷ []) (hk : 
 
     pub refusal_few : r ≤ 16384
     refusal_few = omega (arith, h.count, refusal_short k l hk hl, ap {B = ℕ} length same)
-
--- the line of a job fits 32 bits
-pub line_fits : (r : JobAnswer) → Near r → (l : ℕ) → r ≡ Broken l → Fits w32 l
-line_fits r h l e = omega (arith, near_line r h l e)
-
--- what is printed is lent from the buffer's front
-pub printed_lent : (k : ℕ) (out : List ℕ) → k ≤ 16384 → length out ≡ length (replicate {A = ℕ} 16384 0) → k ≡ length (take k out)
-printed_lent k out h e = sym (length-take-le k out (omega (arith, length-replicate {A = ℕ} 16384 0)))
 
 -- ---- a text, and a buffer with room for every listing
 
@@ -99,29 +88,22 @@ module _ (text before : List ℕ) (room : 16384 ≤ length before) where
       go (done bytes) p = fits bytes p (ltb (length before) (length bytes)) refl
 
   -- as the code hands it over: the answer r of the job, and what it left in the buffer
-  module _ (r : JobAnswer) (told-it : job_to_answer r ≡ (outcome (run_job text) before).answer) (mid : List ℕ)
+  module _ (r : Result ℕ JobRefusal) (told-it : job_to_answer r ≡ (outcome (run_job text) before).answer) (mid : List ℕ)
       (left : mid ≡ (outcome (run_job text) before).buffer) where
-    pub listed_printed : (k : ℕ) → r ≡ Listed k → Wrote (prints text) before mid k
+    pub listed_printed : (k : ℕ) → r ≡ Ok k → Wrote (prints text) before mid k
     listed_printed k e =
         let d = printed_done k (sym (ap job_to_answer e) ∙ told-it) in
         record { count = d.0; puts = record { bytes = left ∙ d.1 } }
 
-    pub listed_short : (k : ℕ) → r ≡ Listed k → k ≤ 16384
+    pub listed_short : (k : ℕ) → r ≡ Ok k → k ≤ 16384
     listed_short k e = (printed_done k (sym (ap job_to_answer e) ∙ told-it)).2
 
-    pub refused_printed : (k : ℕ) → r ≡ Refused k → (after : List ℕ) (m : ℕ) → Wrote (refusal_line k 0) mid after m →
-        Wrote (prints text) before after m
-    unfolding line_of
-    refused_printed k e after m h =
-        let d = printed_refused (numbered k) (sym (ap job_to_answer e) ∙ told-it) in
-        rw (d.0, left ∙ d.1) at h
-
-    pub broken_printed : (l : ℕ) → r ≡ Broken l → (after : List ℕ) (m : ℕ) → Wrote (refusal_line 17 l) mid after m →
-        Wrote (prints text) before after m
-    unfolding line_of
-    broken_printed l e after m h =
-        let d = printed_refused (line_broken l) (sym (ap job_to_answer e) ∙ told-it) in
-        rw (d.0, left ∙ d.1) at h
+    -- by the number k and the line l, as the code has them
+    pub refused_printed : (why : JobRefusal) → r ≡ Err why → (k l : ℕ) → k ≡ number (job_to_refusal why) → l ≡ line_of (job_to_refusal why) →
+        (after : List ℕ) (m : ℕ) → Wrote (refusal_line k l) mid after m → Wrote (prints text) before after m
+    refused_printed why e k l f g after m h =
+        let d = printed_refused (job_to_refusal why) (sym (ap job_to_answer e) ∙ told-it) in
+        rw (f, g, d.0, left ∙ d.1) at h
 
 -- ---- a text that is too long
 

@@ -6,24 +6,17 @@ ghost use Rattle.definitions.specs.Job.{most_bytes, prints};
 ghost use Rattle.text_model.specs.Writing.{Wrote};
 ghost use Rattle.packmap.specs.Printed.{refusal_line};
 
-use job_call::JobAnswer;
 use text_read_job::MOST_BYTES;
 
-// the file descriptors of standard input and output
+// The file descriptors of standard input and output. Both go by `io`: what std has for them asks for a handle, and HANDLES allows none.
 const STDIN_FILENO: i32 = 0;
 
 const STDOUT_FILENO: i32 = 1;
 
-fn signed(x: u32) -> i64
-    ensures { result ≡ pos x }
-{
-    x as i64
-}
-
 fn refusal_numbers(number: u32, line: u32) -> [i64; 2]
     ensures { result ≡ pos number ∷ pos line ∷ [] }
 {
-    [signed(number), signed(line)]
+    [i64::from(number), i64::from(line)]
 }
 
 // The line of a refusal.
@@ -42,10 +35,9 @@ fn answer(text: &[u8], out: &mut [u8]) -> usize
     ensures written { Wrote (prints text.now) out.old out.new result }
     ensures short { result ≤ most_bytes }
 {
-    match job_call::run(text, &mut *out) {
-        JobAnswer::Listed(length) => length,
-        JobAnswer::Refused(number) => put_refusal(number, 0, out),
-        JobAnswer::Broken(line) => put_refusal(17, line as u32, out),
+    match job_call::run(text, out) {
+        Ok(length) => length,
+        Err(why) => put_refusal(why.number(), why.line() as u32, out),
     }
 }
 

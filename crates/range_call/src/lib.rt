@@ -7,25 +7,22 @@ ghost use Rattle.definitions.specs.Mesh.{coordinates_length};
 ghost use Rattle.definitions.specs.Forward.{forward};
 ghost use Rattle.definitions.specs.Refusals.{row9, range_call, AcceptedWeights};
 ghost use Rattle.labels_tables.specs.LabelledTables.{Peeled};
-ghost use Rattle.maps_call.specs.Answer.{map_to_answer};
+ghost use Rattle.mesh_answer.specs.Answer.{to_answer};
 ghost use Rattle.range_call.specs.CallOutcomes.{RangeFits};
 
 use labels_call::label_mesh;
-use lent_slices::range_rows;
-use maps_call::MapAnswer;
+use lent_slices::{Contents, check_sizes};
 use maps_forward::write_coordinates;
 use maps_limits::{low_above_high, past_limit};
-use mesh_answer::{MeshAnswer, Refusal, refusal_of};
+use mesh_answer::Refusal;
+use mesh_check::Mesh;
 use scratch_tables::clear;
 
 // 9, of either list
 fn either_past_limit(lows: &[i64], highs: &[i64]) -> bool
     ensures { result ≡ (row9 lows.now || row9 highs.now) }
 {
-    if past_limit(lows) {
-        return true;
-    }
-    past_limit(highs)
+    past_limit(lows) || past_limit(highs)
 }
 
 // the coordinates of both lists, on a labelled mesh
@@ -48,73 +45,65 @@ fn write_both(
 
 // Rows 21, 29, 3 to 8 and 9, and the coordinates. Nothing is said of scratch: the call clears it.
 fn run_range(
-    n: usize,
-    outer: usize,
-    triangles: &[u16],
+    mesh: &Mesh,
     lows: &[i64],
     highs: &[i64],
     lowest: &mut [i64],
     highest: &mut [i64],
     scratch: &mut [i64],
-) -> MapAnswer
-    requires { RangeFits n triangles.now lows.now highs.now lowest.old highest.old scratch.old }
-    ensures answer { map_to_answer result ≡ (range_call n outer triangles.now lows.now highs.now
+) -> Result<(), Refusal>
+    requires { RangeFits mesh.now.n mesh.now.triangles.now lows.now highs.now lowest.old highest.old scratch.old }
+    ensures answer { to_answer result ≡ (range_call mesh.now.n mesh.now.outer mesh.now.triangles.now lows.now highs.now
         lowest.old highest.old scratch.old).answer }
-    ensures lowest { lowest.new ≡ (range_call n outer triangles.now lows.now highs.now
+    ensures lowest { lowest.new ≡ (range_call mesh.now.n mesh.now.outer mesh.now.triangles.now lows.now highs.now
         lowest.old highest.old scratch.old).low_coordinates }
-    ensures highest { highest.new ≡ (range_call n outer triangles.now lows.now highs.now
+    ensures highest { highest.new ≡ (range_call mesh.now.n mesh.now.outer mesh.now.triangles.now lows.now highs.now
         lowest.old highest.old scratch.old).high_coordinates }
 {
-    if triangles.len() / 3 <= outer {
-        return MapAnswer::Refused(Refusal::Numbered(21));
+    if mesh.triangles.len() / 3 <= mesh.outer {
+        return Err(Refusal::OuterTriangle);
     }
     if low_above_high(lows, highs) {
-        return MapAnswer::Refused(Refusal::Numbered(29));
+        return Err(Refusal::LowAboveHigh);
     }
-    let labelled = label_mesh(n, outer, triangles, scratch);
-    let MeshAnswer::Accepted = labelled else {
-        return MapAnswer::Refused(refusal_of(labelled));
-    };
+    label_mesh(mesh, scratch)?;
     if either_past_limit(lows, highs) {
-        return MapAnswer::Refused(Refusal::Numbered(9));
+        return Err(Refusal::WeightLimit);
     }
-    write_both(n, lows, highs, lowest, highest, scratch);
-    MapAnswer::Written
+    write_both(mesh.n, lows, highs, lowest, highest, scratch);
+    Ok(())
 }
 
 // The public call. Scratch is as lent after 1 and 2, and holds zeros after every other answer.
 pub fn forward_range(
-    n: usize,
-    outer: usize,
-    triangles: &[u16],
+    mesh: &Mesh,
     lows: &[i64],
     highs: &[i64],
     lowest: &mut [i64],
     highest: &mut [i64],
     scratch: &mut [i64],
-) -> MapAnswer
-    ensures answer { map_to_answer result ≡ (range_call n outer triangles.now lows.now highs.now
+) -> Result<(), Refusal>
+    ensures answer { to_answer result ≡ (range_call mesh.now.n mesh.now.outer mesh.now.triangles.now lows.now highs.now
         lowest.old highest.old scratch.old).answer }
-    ensures lowest { lowest.new ≡ (range_call n outer triangles.now lows.now highs.now
+    ensures lowest { lowest.new ≡ (range_call mesh.now.n mesh.now.outer mesh.now.triangles.now lows.now highs.now
         lowest.old highest.old scratch.old).low_coordinates }
-    ensures highest { highest.new ≡ (range_call n outer triangles.now lows.now highs.now
+    ensures highest { highest.new ≡ (range_call mesh.now.n mesh.now.outer mesh.now.triangles.now lows.now highs.now
         lowest.old highest.old scratch.old).high_coordinates }
-    ensures scratch { scratch.new ≡ (range_call n outer triangles.now lows.now highs.now
+    ensures scratch { scratch.new ≡ (range_call mesh.now.n mesh.now.outer mesh.now.triangles.now lows.now highs.now
         lowest.old highest.old scratch.old).scratch }
 {
-    let number = range_rows(
-        n,
-        triangles.len(),
-        lows.len(),
-        highs.len(),
-        lowest.len(),
-        highest.len(),
-        scratch.len(),
-    );
-    if number != 0 {
-        return MapAnswer::Refused(Refusal::Numbered(number));
-    }
-    let answer = run_range(n, outer, triangles, lows, highs, lowest, highest, scratch);
+    check_sizes(
+        mesh.n,
+        &[
+            (Contents::Triangles, mesh.triangles.len()),
+            (Contents::Scratch, scratch.len()),
+            (Contents::Weights, lows.len()),
+            (Contents::Weights, highs.len()),
+            (Contents::Coordinates, lowest.len()),
+            (Contents::Coordinates, highest.len()),
+        ],
+    )?;
+    let answer = run_range(mesh, lows, highs, lowest, highest, scratch);
     clear(scratch);
     answer
 }

@@ -1,11 +1,12 @@
 -- The area number, the test for a bad triangle and the raise, by coordinates 0 and 1 of the vertices p, q, r at its corners labelled 0, 1, 2; that they are
 -- the definitions', and how large the numbers on the way get where no coordinate is past the limit. Assumes nothing.
 use Prim.Native.Nat.{ℕ, ◌+◌, ◌*◌, ◌^◌, ◌≤◌, ◌<◌, max}
-use Rattle.std.specs.Prelude.{◌≡◌, Bool, true, false, List, length, pos, ◌+ℤ◌, ◌-ℤ◌, ◌*ℤ◌}
-use Rattle.std.proofs.Common.{inl, inr, arith, le_trans, mul-le-mul, to_z, of_z}
+use Rattle.std.specs.Prelude.{◌≡◌, Bool, false, List, length, pos, ◌+ℤ◌, ◌-ℤ◌, ◌*ℤ◌}
+use Rattle.std.proofs.Common.{refl, ◌∙◌, inl, inr, arith, mul-le-mul, SFits, to_z, of_z, to_z-of_z}
 use Rattle.std.proofs.Math.IntN.{ℤ, nat_abs}
+use Rattle.std.proofs.lemmas.Int.{ints, fits_signed_from_abs}
 use Rattle.std.specs.Int.Signed.{mag, le_z}
-use Rattle.std.specs.Int.{w64}
+use Rattle.std.specs.Int.{w64, int_max}
 use Rattle.definitions.specs.Backward.{coordinate}
 use Rattle.definitions.specs.Repair.{limit, max_z, corner_coordinate, area, bad, deficit, raise}
 use Rattle.definitions.specs.Refusals.{row10}
@@ -13,7 +14,7 @@ use Rattle.laws.specs.Integers.{int, z+, z-}
 use Rattle.laws.specs.Lists.{tested}
 use Rattle.laws.specs.Ring.{le_z-true, le-le_z, le_z-false, lt-le_z}
 use Rattle.laws.specs.Sums.{abs-+}
-use Rattle.int64.specs.Whole.{abs_minus, held, held-size}
+use Rattle.int64.specs.Whole.{abs_minus, abs_times, held, held-size}
 use Rattle.maps_limits.specs.Limits.{coordinate-range}
 use Rattle.theory_realizer.specs.Units.{vertex_at}
 
@@ -133,34 +134,83 @@ module _ (ts ls : List ℕ) (bs : List ℤ) (t : ℕ) (e : row10 bs ≡ false) w
       let m = abs_max x (max_z y z) (2 * limit) (deficit_small 0 1 2) (abs_max y z (2 * limit) (deficit_small 1 0 2) (deficit_small 2 0 1)) in
       omega (arith, abs-+ (pos 1) (max_z x (max_z y z)), m)
 
--- ---- the tests of the code, on numbers that are those of the definition
+-- ---- sums, differences and products of them, as the code's operators give them from their bits
 
-pub max_right : (x y a b : ℤ) → le_z a b ≡ true → a ≡ x → b ≡ y → b ≡ max_z x y
-unfolding max_z
-max_right x y a b h e f = rw (← e, ← f, h)
+-- the number that the 64 bits of z stand for, which is z where that leaves room
+abbrev pub stored : ℤ → ℤ
+stored z = to_z w64 (of_z w64 z)
 
-pub max-left : (x y a b : ℤ) → le_z a b ≡ false → a ≡ x → b ≡ y → a ≡ max_z x y
-unfolding max_z
-max-left x y a b h e f = rw (← e, ← f, h)
+kept : (z : ℤ) → nat_abs z < 2 ^ 63 → stored z ≡ z
+kept z h = to_z-of_z {w = w64} (fits_signed_from_abs w64 z h)
 
-pub bad_is : (bs : List ℤ) (p q r : ℕ) (x : Bool) (a b : ℤ) → x ≡ le_z a b → a ≡ area_of bs p q r → b ≡ pos 0 → x ≡ bad_of bs p q r
-unfolding bad_of
-bad_is bs p q r x a b h e f = rw (h, e, f)
+module _ (a b x y : ℤ) (m n : ℕ) (h : nat_abs a ≤ m) (k : nat_abs b ≤ n) (room : m + n < 2 ^ 63) (e : a ≡ x) (f : b ≡ y) where
+  pub sum_is : stored (stored a +ℤ stored b) ≡ x +ℤ y
+  sum_is = rw (kept a (omega arith), kept b (omega arith), kept (a +ℤ b) (omega (arith, abs-+ a b)), e, f)
 
--- a product of two growths, read back from their bits
-pub square : (x y : ℤ) → nat_abs x ≤ 2 * limit → nat_abs y ≤ 2 * limit →
-    nat_abs (to_z w64 (of_z w64 x)) * nat_abs (to_z w64 (of_z w64 y)) ≤ 4_611_686_009_837_453_316
-square x y h k = mul-le-mul (le_trans (held-size x) h) (le_trans (held-size y) k)
+  pub difference_is : stored (stored a -ℤ stored b) ≡ x -ℤ y
+  difference_is = rw (kept a (omega arith), kept b (omega arith), kept (a -ℤ b) (omega (arith, abs_minus a b)), e, f)
 
--- ---- what `product` and `greater` give, read back from its bits
+module _ (a b : ℤ) (ha : nat_abs a ≤ limit) (hb : nat_abs b ≤ limit) where
+  difference-size : nat_abs (a -ℤ b) ≤ 2 * limit
+  difference-size = omega (arith, abs_minus a b)
 
-pub product_is : (r a b c d x y z w : ℤ) → mag r < 2 ^ 63 → r ≡ (a -ℤ b) *ℤ (c -ℤ d) → a ≡ x → b ≡ y → c ≡ z → d ≡ w →
-    to_z w64 (of_z w64 r) ≡ (x -ℤ y) *ℤ (z -ℤ w)
-product_is r a b c d x y z w h e f g i j = rw (held r h, e, f, g, i, j)
+  difference-bits : stored (stored a -ℤ stored b) ≡ a -ℤ b
+  difference-bits = difference_is a b a b limit limit ha hb (omega arith) refl refl
 
-pub max_is : (r a b x y : ℤ) → mag r < 2 ^ 63 → r ≡ max_z a b → a ≡ x → b ≡ y → to_z w64 (of_z w64 r) ≡ max_z x y
-max_is r a b x y h e f g = rw (held r h, e, f, g)
+module _ (a b c d : ℤ) (ha : nat_abs a ≤ limit) (hb : nat_abs b ≤ limit) (hc : nat_abs c ≤ limit) (hd : nat_abs d ≤ limit) where
+  product-size : nat_abs ((a -ℤ b) *ℤ (c -ℤ d)) ≤ 4_611_686_009_837_453_316
+  product-size =
+      omega (arith, abs_times (a -ℤ b) (c -ℤ d), mul-le-mul (difference-size a b ha hb) (difference-size c d hc hd))
 
--- `omega` reads this of a result of `greater`
-pub max-size : (r a b : ℤ) → r ≡ max_z a b → nat_abs (to_z w64 (of_z w64 r)) ≤ max (nat_abs a) (nat_abs b)
-max-size r a b e = let h = abs_max a b (max (nat_abs a) (nat_abs b)) (omega arith) (omega arith) in omega (arith, held-size r, rw (← e) at h)
+  product_fits : SFits w64 ((a -ℤ b) *ℤ (c -ℤ d))
+  product_fits = fits_signed_from_abs w64 _ (omega (arith, product-size))
+
+  pub product_bits_fit : SFits w64 (stored (stored a -ℤ stored b) *ℤ stored (stored c -ℤ stored d))
+  product_bits_fit = rw (difference-bits a b ha hb, difference-bits c d hc hd) product_fits
+
+  product-bits : stored (stored (stored a -ℤ stored b) *ℤ stored (stored c -ℤ stored d)) ≡ (a -ℤ b) *ℤ (c -ℤ d)
+  product-bits = rw (difference-bits a b ha hb, difference-bits c d hc hd) (to_z-of_z {w = w64} product_fits)
+
+-- the area number of three points within the limit
+module _ (p0 p1 q0 q1 r0 r1 : ℤ) (hp0 : nat_abs p0 ≤ limit) (hp1 : nat_abs p1 ≤ limit) (hq0 : nat_abs q0 ≤ limit) (hq1 : nat_abs q1 ≤ limit)
+    (hr0 : nat_abs r0 ≤ limit) (hr1 : nat_abs r1 ≤ limit) where
+  abbrev first : ℤ
+  first = stored (stored (stored q0 -ℤ stored p0) *ℤ stored (stored r1 -ℤ stored p1))
+
+  abbrev second : ℤ
+  second = stored (stored (stored q1 -ℤ stored p1) *ℤ stored (stored r0 -ℤ stored p0))
+
+  pub area_fits : SFits w64 (first -ℤ second)
+  area_fits =
+      rw (product-bits q0 p0 r1 p1 hq0 hp0 hr1 hp1, product-bits q1 p1 r0 p0 hq1 hp1 hr0 hp0)
+      (fits_signed_from_abs w64 _ (omega (
+        arith,
+        abs_minus ((q0 -ℤ p0) *ℤ (r1 -ℤ p1)) ((q1 -ℤ p1) *ℤ (r0 -ℤ p0)),
+        product-size q0 p0 r1 p1 hq0 hp0 hr1 hp1,
+        product-size q1 p1 r0 p0 hq1 hp1 hr0 hp0,
+      )))
+
+  pub area_is : stored (first -ℤ second) ≡ (q0 -ℤ p0) *ℤ (r1 -ℤ p1) -ℤ (q1 -ℤ p1) *ℤ (r0 -ℤ p0)
+  area_is =
+      to_z-of_z {w = w64} area_fits ∙ rw (product-bits q0 p0 r1 p1 hq0 hp0 hr1 hp1, product-bits q1 p1 r0 p0 hq1 hp1 hr0 hp0)
+
+-- ---- the greater of two numbers, as the code's `max` gives it from their bits
+
+module _ (a b r : ℤ) (e : r ≡ int_max (stored a) (stored b)) where
+  greater : r ≡ max_z (stored a) (stored b)
+  unfolding max_z
+  greater = grind (arith, ints)
+
+  pub max_is : (x y : ℤ) → mag a < 2 ^ 63 → mag b < 2 ^ 63 → a ≡ x → b ≡ y → r ≡ max_z x y
+  max_is x y h k f g = greater ∙ rw (held a h, held b k, f, g)
+
+  pub max-size : (m n : ℕ) → nat_abs a ≤ m → nat_abs b ≤ n → nat_abs r ≤ max m n
+  max-size m n h k =
+      let f = abs_max _ _ (max m n) (omega (arith, held-size a)) (omega (arith, held-size b)) in
+      rw greater f
+
+  pub deficit_is : (own : ℤ) → nat_abs own ≤ limit → nat_abs a ≤ limit → nat_abs b ≤ limit →
+      stored (stored r -ℤ stored own) ≡ max_z a b -ℤ own
+  deficit_is own h k l =
+      difference_is r own (max_z a b) own limit limit (max-size limit limit k l) h (omega arith)
+      (greater ∙ rw (kept a (omega arith), kept b (omega arith))) refl

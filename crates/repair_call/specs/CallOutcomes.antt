@@ -1,5 +1,5 @@
 -- What the repair call answers and leaves, for each way that it can end: the equations of `repair_call`. Assumes nothing.
-use Rattle.std.specs.Prelude.{ℕ, ◌≡◌, true, false, length, ℤ, pos}
+use Rattle.std.specs.Prelude.{ℕ, ◌≡◌, true, false, length, ℤ, pos, Result}
 use Rattle.std.proofs.Common.{sym, ◌∙◌, arith}
 use Rattle.std.proofs.Math.Path.{ap}
 use mathlib.Core.List.{List, [], ◌∷◌, map}
@@ -15,7 +15,7 @@ use Rattle.labels_tables.specs.LabelledTables.{Peeled}
 use Rattle.lent_slices.specs.Lengths.{first_rows}
 use Rattle.lent_slices.specs.Calls.{Fits, early_found, Late, rim_late, late_zeros, cleared}
 use Rattle.lent_slices.specs.MapLengths.{Lengths, forward_slices, forward_fits}
-use Rattle.repair_loop.specs.declared.Ended.{Ended}
+use Rattle.repair_loop.specs.declared.Stopped.{Stopped}
 use Rattle.repair_loop.specs.Answer.{end_to_answer, Ends}
 use Rattle.repair_loop.specs.Start.{StartPre}
 
@@ -82,7 +82,8 @@ module _ (n outer_place : ℕ) (ts : List ℕ) (ws bs scratch : List ℤ) where
     fits = forward_fits n ts scratch (length ws) (length bs) L
 
     -- a row with a number from 3 on
-    given_row : (why : Refusal) → Late why → call_refusal n outer_place ts scratch slices own ≡ some why → Given n outer_place ts ws bs scratch (refused why) ws bs
+    given_row : (why : Refusal) → Late why → call_refusal n outer_place ts scratch slices own ≡ some why →
+        Given n outer_place ts ws bs scratch (refused why) ws bs
     given_row why l e =
         let g = given (some why) e in
         record { answer = g.0; weights = g.1.0; coordinates = g.1.1.0; zeros = sym (late_zeros why scratch l) ∙ g.1.1.1 }
@@ -100,7 +101,7 @@ module _ (n outer_place : ℕ) (ts : List ℕ) (ws bs scratch : List ℤ) where
       pub given_9 : row9 ws ≡ true → Given n outer_place ts ws bs scratch (refused (numbered 9)) ws bs
       given_9 e = given_row (numbered 9) (omega arith) (on-mesh ∙ refusal-found nine [] (numbered 9) (row-found 9 (λ _. row9 ws) e))
 
-      pub given_end : row9 ws ≡ false → (end : Ended) (ws' bs' : List ℤ) → Ends n mesh (labels n mesh) ws ws' bs' end →
+      pub given_end : row9 ws ≡ false → (end : Result ℕ Stopped) (ws' bs' : List ℤ) → Ends n mesh (labels n mesh) ws ws' bs' end →
           Given n outer_place ts ws bs scratch (end_to_answer end) ws' bs'
       unfolding scratch_after first_refusal
       given_end e end ws' bs' E =

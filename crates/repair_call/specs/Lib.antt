@@ -1,3 +1,2 @@
 -- What the repair call answers in document 01's numbers, and what it leaves.
-pub mod Answer
 pub mod CallOutcomes

@@ -5,87 +5,63 @@
 ghost use Rattle.std.specs.Prelude.{◌≡◌, length};
 ghost use Rattle.definitions.specs.Refusals.{repair_call};
 ghost use Rattle.lent_slices.specs.MapLengths.{Lengths};
-ghost use Rattle.repair_loop.specs.Answer.{end_to_answer};
-ghost use Rattle.repair_call.specs.Answer.{repair_to_answer};
+ghost use Rattle.mesh_answer.specs.Answer.{to_answer};
 ghost use Rattle.repair_call.specs.CallOutcomes.{Given};
 
 use labels_call::label_mesh;
-use lent_slices::map_rows;
-use mesh_answer::{MeshAnswer, Refusal, refusal_of};
-use repair_loop::{Ended, repair_labelled};
+use lent_slices::{Contents, check_sizes};
+use mesh_answer::Refusal;
+use mesh_check::Mesh;
+use repair_loop::repair_labelled;
 use scratch_tables::clear;
-
-// repaired, with the count of raises; refused; or 13, with the count so far
-#[derive(Clone, Copy)]
-pub enum RepairAnswer {
-    Repaired(usize),
-    Refused(Refusal),
-    Stopped(usize),
-}
-
-fn ended(end: Ended) -> RepairAnswer
-    ensures { repair_to_answer result ≡ end_to_answer end }
-{
-    match end {
-        Ended::Finished(count) => RepairAnswer::Repaired(count),
-        Ended::Stopped(count) => RepairAnswer::Stopped(count),
-    }
-}
 
 // from row 21 on; nothing is said of scratch, which the call clears
 fn run_repair(
-    n: usize,
-    outer: usize,
-    triangles: &[u16],
+    mesh: &Mesh,
     weights: &mut [i64],
     coordinates: &mut [i64],
     scratch: &mut [i64],
-) -> RepairAnswer
-    requires { Lengths n (length triangles.now) (length scratch.old) (length weights.old) (length coordinates.old) }
-    ensures { Given n outer triangles.now weights.old coordinates.old scratch.old (repair_to_answer result)
+) -> Result<usize, Refusal>
+    requires { Lengths mesh.now.n (length mesh.now.triangles.now) (length scratch.old) (length weights.old) (length coordinates.old) }
+    ensures { Given mesh.now.n mesh.now.outer mesh.now.triangles.now weights.old coordinates.old scratch.old (to_answer result)
         weights.new coordinates.new }
 {
-    let labelled = label_mesh(n, outer, triangles, scratch);
-    let MeshAnswer::Accepted = labelled else {
-        return RepairAnswer::Refused(refusal_of(labelled));
-    };
+    label_mesh(mesh, scratch)?;
     if maps_limits::past_limit(weights) {
-        return RepairAnswer::Refused(Refusal::Numbered(9));
+        return Err(Refusal::WeightLimit);
     }
-    let end = repair_labelled(n, weights, coordinates, scratch);
-    ended(end)
+    repair_labelled(mesh.n, weights, coordinates, scratch).map_err(|stopped| Refusal::Stopped(
+        stopped.raises,
+    ))
 }
 
-// The public call. Scratch is as lent after 1 and 2, and holds zeros after every other answer. Weights and coordinates are as lent after every
-// refusal but 13; after that the weights are as after the last full raise, and the coordinates are theirs.
+// The public call: how many raises were made. Scratch is as lent after 1 and 2, and holds zeros after every other answer. Weights and coordinates are as
+// lent after every refusal but 13; after that the weights are as after the last full raise, and the coordinates are theirs.
 pub fn repair(
-    n: usize,
-    outer: usize,
-    triangles: &[u16],
+    mesh: &Mesh,
     weights: &mut [i64],
     coordinates: &mut [i64],
     scratch: &mut [i64],
-) -> RepairAnswer
-    ensures answer { repair_to_answer result ≡
-        (repair_call n outer triangles.now weights.old coordinates.old scratch.old).answer }
+) -> Result<usize, Refusal>
+    ensures answer { to_answer result ≡
+        (repair_call mesh.now.n mesh.now.outer mesh.now.triangles.now weights.old coordinates.old scratch.old).answer }
     ensures weights { weights.new ≡
-        (repair_call n outer triangles.now weights.old coordinates.old scratch.old).weights }
+        (repair_call mesh.now.n mesh.now.outer mesh.now.triangles.now weights.old coordinates.old scratch.old).weights }
     ensures coordinates { coordinates.new ≡
-        (repair_call n outer triangles.now weights.old coordinates.old scratch.old).coordinates }
+        (repair_call mesh.now.n mesh.now.outer mesh.now.triangles.now weights.old coordinates.old scratch.old).coordinates }
     ensures scratch { scratch.new ≡
-        (repair_call n outer triangles.now weights.old coordinates.old scratch.old).scratch }
+        (repair_call mesh.now.n mesh.now.outer mesh.now.triangles.now weights.old coordinates.old scratch.old).scratch }
 {
-    let number = map_rows(
-        n,
-        triangles.len(),
-        weights.len(),
-        coordinates.len(),
-        scratch.len(),
-    );
-    if number != 0 {
-        return RepairAnswer::Refused(Refusal::Numbered(number));
-    }
-    let answer = run_repair(n, outer, triangles, weights, coordinates, scratch);
+    check_sizes(
+        mesh.n,
+        &[
+            (Contents::Triangles, mesh.triangles.len()),
+            (Contents::Scratch, scratch.len()),
+            (Contents::Weights, weights.len()),
+            (Contents::Coordinates, coordinates.len()),
+        ],
+    )?;
+    let answer = run_repair(mesh, weights, coordinates, scratch);
     clear(scratch);
     answer
 }

@@ -1,6 +1,6 @@
 -- All of repair's raises: by the total the loop is entered at once, or after the first raise, or not at all; and once it has ended the third coordinates are
 -- written. Assumes nothing.
-use Rattle.std.specs.Prelude.{ℕ, ◌+◌, ◌-◌, ◌*◌, ◌≤◌, ◌<◌, ◌≡◌, true, false, length, ℤ, pos, nat_abs, ◌-ℤ◌, ◌<ℤ◌}
+use Rattle.std.specs.Prelude.{ℕ, ◌+◌, ◌-◌, ◌*◌, ◌≤◌, ◌<◌, ◌≡◌, true, false, length, ℤ, pos, nat_abs, ◌-ℤ◌, ◌<ℤ◌, Result, Err}
 use Rattle.std.proofs.Math.Path.{refl, ap}
 use Rattle.std.proofs.Common.{◌∙◌, arith}
 use mathlib.Core.List.{List, []}
@@ -30,11 +30,10 @@ use Rattle.repair_model.specs.Search.{raise_at}
 use Rattle.repair_model.specs.Ready.{Ready, org_low, rim_is, raise_room}
 use Rattle.repair_model.specs.LoopState.{Reached}
 use Rattle.repair_model.specs.FirstRaise.{drawn_lent, reached_straight, stops_first, reached-first}
-use Rattle.repair_search.specs.SearchLoops.{CornersIn}
+use Rattle.repair_search.specs.SearchLoops.{SearchPre}
 use Rattle.repair_loop.specs.OneRaise.{RaisePre, Tried, LoopPre, ReadyPre, FirstPre}
-use Rattle.repair_loop.specs.UpdateOnReady.{corners_in_lem, update_pre, times_moved-moved}
-use Rattle.repair_loop.specs.declared.Ended.{Ended}
-use Rattle.repair_loop.specs.declared.Ended.TheVariants.{Stopped}
+use Rattle.repair_loop.specs.UpdateOnReady.{search_pre, update_pre, times_moved-moved}
+use Rattle.repair_loop.specs.declared.Stopped.{Stopped}
 use Rattle.repair_loop.specs.Answer.{Halts, Ends, halts_by}
 
 module _ (n : ℕ) (s ws₀ bs₀ : List ℤ) (sum : ℕ) (M : ReadyPre n ws₀ bs₀ s sum) where
@@ -95,7 +94,7 @@ module _ (n : ℕ) (s ws₀ bs₀ : List ℤ) (sum : ℕ) (M : ReadyPre n ws₀ 
               room = M.room;
             }
 
-        pub straight : (ws bs : List ℤ) (r : Ended) →
+        pub straight : (ws bs : List ℤ) (r : Result ℕ Stopped) →
             ((ts ls : List ℕ) (lent : List ℤ) → Reached n ts ls lent ws₀ bs₀ s sum 0 1 → Halts n ts ls lent ws bs r) →
             (ts ls : List ℕ) → Ready n ts ls s → bs₀ ≡ forward n ts ls ws₀ → Halts n ts ls ws₀ ws bs r
         straight ws bs r H ts ls Y d = H ts ls ws₀ (reached-0 ts ls Y d)
@@ -113,7 +112,7 @@ module _ (n : ℕ) (s ws₀ bs₀ : List ℤ) (sum : ℕ) (M : ReadyPre n ws₀ 
 
     -- ---- the third coordinates
 
-    module _ (ws bs : List ℤ) (r : Ended) (H : (ts ls : List ℕ) → Ready n ts ls s → bs₀ ≡ forward n ts ls ws₀ → Halts n ts ls ws₀ ws bs r) where
+    module _ (ws bs : List ℤ) (r : Result ℕ Stopped) (H : (ts ls : List ℕ) → Ready n ts ls s → bs₀ ≡ forward n ts ls ws₀ → Halts n ts ls ws₀ ws bs r) where
       pub thirds_pre : ThirdsPre n v0 bs
       thirds_pre =
           let h = H ts ls M.ready M.drawn in
@@ -149,14 +148,11 @@ module _ (n : ℕ) (s ws₀ bs₀ : List ℤ) (sum : ℕ) (N : ℤ) (F : FirstPr
   abbrev M : ReadyPre n ws₀ bs₀ s sum
   M = F.begun
 
-  some : 1 < 2 * n - 4
+  pub some : 1 < 2 * n - 4
   some = omega (arith, M.ready.sphere.least)
 
-  pub can_weigh-first : CornersIn s bs₀ 1 × (nat_abs N ≤ limit)
-  can_weigh-first = (
-    corners_in_lem n M.triangles M.labels s M.ready M.room bs₀ (long n s ws₀ bs₀ sum M) (within n s ws₀ bs₀ sum M) 1 (omega arith) some,
-    F.small,
-  )
+  pub can_search-first : SearchPre s bs₀ (2 * n - 4)
+  can_search-first = search_pre n M.triangles M.labels s M.ready M.room bs₀ (long n s ws₀ bs₀ sum M) (within n s ws₀ bs₀ sum M)
 
   -- `handed` is N, as the call was handed it
   module _ (x handed : ℤ) (eh : handed ≡ N) (ex : x ≡ max_z (raise_at (tables_of s) bs₀ 1) (pos 1 -ℤ handed)) where
@@ -191,11 +187,11 @@ module _ (n : ℕ) (s ws₀ bs₀ : List ℤ) (sum : ℕ) (N : ℤ) (F : FirstPr
       due ts ls Y d = rw (F.is ts ls Y d) at by_total
 
       -- it is not made
-      pub first_stops : limit < r → (ts ls : List ℕ) → Ready n ts ls s → bs₀ ≡ forward n ts ls ws₀ → Halts n ts ls ws₀ ws bs (Stopped 0)
+      pub first_stops : limit < r → (ts ls : List ℕ) → Ready n ts ls s → bs₀ ≡ forward n ts ls ws₀ → Halts n ts ls ws₀ ws bs (Err (record { raises = 0 }))
       unfolding repair_answer
       first_stops h ts ls Y d =
           let e = stops_first n ts ls ws₀ bs₀ s Y M.long M.light d (below ts ls Y d) x (due ts ls Y d) (omega (arith, T.sum)) in
-          halts_by n ts ls ws₀ ws bs (Stopped 0) (record { ending = stopped; weights = ws₀; raises = [] }) e refl (T.kept h).0
+          halts_by n ts ls ws₀ ws bs (Err (record { raises = 0 })) (record { ending = stopped; weights = ws₀; raises = [] }) e refl (T.kept h).0
           (rw (T.kept h).1 (drawn_lent n ts ls ws₀ bs₀ s Y M.long M.light d))
 
       -- it is made
@@ -217,7 +213,7 @@ module _ (n : ℕ) (s ws₀ bs₀ : List ℤ) (sum : ℕ) (N : ℤ) (F : FirstPr
               room = M.room;
             }
 
-        pub after_first : (ws' bs' : List ℤ) (r' : Ended) →
+        pub after_first : (ws' bs' : List ℤ) (r' : Result ℕ Stopped) →
             ((ts ls : List ℕ) (lent : List ℤ) → Reached n ts ls lent ws bs s r 1 2 → Halts n ts ls lent ws' bs' r') →
             (ts ls : List ℕ) → Ready n ts ls s → bs₀ ≡ forward n ts ls ws₀ → Halts n ts ls ws₀ ws' bs' r'
         after_first ws' bs' r' H ts ls Y d = H ts ls ws₀ (reached-1 ts ls Y d)

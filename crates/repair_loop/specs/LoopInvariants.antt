@@ -1,9 +1,8 @@
 -- The iterations of repair's loop: what holds whenever the next bad triangle is found lets the raise be tried; a raise that is made brings it there again;
 -- and at both ends the answer and the buffers are the definition's. Assumes nothing.
-use Rattle.std.specs.Prelude.{ℕ, ◌+◌, ◌-◌, ◌*◌, ◌≤◌, ◌<◌, ◌≡◌, false, List, length, ℤ, nat_abs}
+use Rattle.std.specs.Prelude.{ℕ, ◌+◌, ◌-◌, ◌*◌, ◌≤◌, ◌<◌, ◌≡◌, false, List, length, ℤ, nat_abs, Ok, Err}
 use Rattle.std.proofs.Math.Path.{refl}
-use Rattle.std.proofs.Common.{sym, ap, ◌∙◌, inl, inr, arith}
-use Rattle.std.proofs.Math.Decide.{ℕ_discrete}
+use Rattle.std.proofs.Common.{sym, ap, ◌∙◌, arith}
 use Rattle.definitions.specs.Repair.{limit, finished, stopped}
 use Rattle.definitions.specs.Answers.{done, refused, stopped_after}
 use Rattle.definitions.specs.Refusals.{row10, repair_answer}
@@ -13,12 +12,11 @@ use Rattle.scratch_tables.specs.Tables.{tables_of}
 use Rattle.repair_model.specs.Raise.{drawn_within}
 use Rattle.repair_model.specs.Search.{bad_at, raise_at, Found, Next}
 use Rattle.repair_model.specs.Ready.{raise_room}
-use Rattle.repair_search.specs.SearchLoops.{CornersIn, SearchPre}
+use Rattle.repair_search.specs.SearchLoops.{SearchPre}
 use Rattle.repair_model.specs.LoopState.{Reached, State, Passed, more-fuel, within, at-finished, at_stopped, at_raised, within_after}
 use Rattle.repair_model.specs.FirstRaise.{found_first}
 use Rattle.repair_loop.specs.OneRaise.{RaisePre, Tried, LoopPre}
-use Rattle.repair_loop.specs.UpdateOnReady.{corners_in_lem, search_pre, update_pre, times_moved-moved}
-use Rattle.repair_loop.specs.declared.Ended.TheVariants.{Finished, Stopped}
+use Rattle.repair_loop.specs.UpdateOnReady.{search_pre, update_pre, times_moved-moved}
 use Rattle.repair_loop.specs.Answer.{Halts, halts_by}
 
 -- ---- at each iteration
@@ -36,10 +34,10 @@ module _ (n : ℕ) (ts ls : List ℕ) (ws₀ ws bs s : List ℤ) (sum count full
   here_within : row10 bs ≡ false
   here_within = within n ts ls ws₀ ws bs s sum count full t S
 
-  module _ (h : t < 2 * n - 4) where
-    pub corners_pre : 10 * n ≤ length s → CornersIn s bs t
-    corners_pre room = corners_in_lem n ts ls s R.ready room bs R.drawn.long here_within t above h
+  search_here : 10 * n ≤ length s → SearchPre s bs (2 * n - 4)
+  search_here room = search_pre n ts ls s R.ready room bs R.drawn.long here_within
 
+  module _ (h : t < 2 * n - 4) where
     module _ (x : ℤ) (ex : x ≡ raise_at (tables_of s) bs t) where
       pub raise_pre : 10 * n ≤ length s → RaisePre n ws bs s t sum x
       raise_pre room =
@@ -69,20 +67,20 @@ module _ (n : ℕ) (ts ls : List ℕ) (ws₀ ws bs s : List ℤ) (sum count full
             (times_moved-moved n ts ls s R.ready t above h x bs bs' (T.made k).1) full' t' N Q r T.sum)
 
         -- it is not
-        pub halts_stopped : limit < r → Halts n ts ls ws₀ ws' bs' (Stopped count)
+        pub halts_stopped : limit < r → Halts n ts ls ws₀ ws' bs' (Err (record { raises = count }))
         unfolding repair_answer
         halts_stopped k =
             let e = at_stopped n ts ls ws₀ ws bs s sum count full t S h x ex (omega (arith, T.sum)) in
             let m = T.kept k in
-            halts_by n ts ls ws₀ ws' bs' (Stopped count) (record { ending = stopped; weights = ws; raises = R.raises }) e
+            halts_by n ts ls ws₀ ws' bs' (Err (record { raises = count })) (record { ending = stopped; weights = ws; raises = R.raises }) e
             (ap (λ (k : ℕ). refused (stopped_after k)) (sym R.counted)) m.0 (rw m.1 R.drawn)
 
   -- no bad triangle is left
-  pub halts_finished : 2 * n - 4 ≤ t → Halts n ts ls ws₀ ws bs (Finished count)
+  pub halts_finished : 2 * n - 4 ≤ t → Halts n ts ls ws₀ ws bs (Ok count)
   unfolding repair_answer
   halts_finished h =
       let e = at-finished n ts ls ws₀ ws bs s sum count full t S h in
-      halts_by n ts ls ws₀ ws bs (Finished count) (record { ending = finished; weights = ws; raises = R.raises }) e
+      halts_by n ts ls ws₀ ws bs (Ok count) (record { ending = finished; weights = ws; raises = R.raises }) e
       (ap (λ (k : ℕ). done k) (sym R.counted)) refl R.drawn
 
 -- ---- the loop
@@ -127,13 +125,16 @@ module _ (n : ℕ) (s ws₁ bs₁ : List ℤ) (sum begun : ℕ) (M : LoopPre n w
     pub now : State n M.triangles M.labels M.lent ws bs s total count full t
     now = L.state ts ls M.lent M.reached
 
+    pub can_search : SearchPre s bs (2 * n - 4)
+    can_search = search_here n ts ls M.lent ws bs s total count full t now M.room
+
+    pub positive : 0 < t
+    positive = above n ts ls M.lent ws bs s total count full t now
+
     pub fueled : count < 2 * n - 4
     fueled = fuel n ts ls M.lent ws bs s total count full t now
 
     module _ (h : t < 2 * n - 4) where
-      pub can_weigh : CornersIn s bs t
-      can_weigh = corners_pre n ts ls M.lent ws bs s total count full t now h M.room
-
       module _ (x : ℤ) (ex : x ≡ raise_at (tables_of s) bs t) where
         pub can_raise : RaisePre n ws bs s t total x
         can_raise = raise_pre n ts ls M.lent ws bs s total count full t now h x ex M.room
@@ -155,21 +156,9 @@ module _ (n : ℕ) (s ws₁ bs₁ : List ℤ) (sum begun : ℕ) (M : LoopPre n w
               }
 
           pub loop_stops : limit < r → (ts ls : List ℕ) (ws₀ : List ℤ) → Reached n ts ls ws₀ ws₁ bs₁ s sum begun (begun + 1) →
-              Halts n ts ls ws₀ ws' bs' (Stopped count)
+              Halts n ts ls ws₀ ws' bs' (Err (record { raises = count }))
           loop_stops k ts ls ws₀ R = halts_stopped n ts ls ws₀ ws bs s total count full t (L.state ts ls ws₀ R) h x ex ws' bs' r T k
 
     pub loop_ends : 2 * n - 4 ≤ t → (ts ls : List ℕ) (ws₀ : List ℤ) → Reached n ts ls ws₀ ws₁ bs₁ s sum begun (begun + 1) →
-        Halts n ts ls ws₀ ws bs (Finished count)
+        Halts n ts ls ws₀ ws bs (Ok count)
     loop_ends h ts ls ws₀ R = halts_finished n ts ls ws₀ ws bs s total count full t (L.state ts ls ws₀ R) h
-
--- ---- what is extended
-
-pub passed_it : (full t : ℕ) → full ≤ t → full ≡ t → Passed full t (t + 1)
-passed_it full t h e = record {
-  least = omega arith;
-  most = omega arith;
-  each = λ i l. elim (ℕ_discrete i t) [ yes q ↦ inr q | no q ↦ inl (omega arith) ];
-}
-
-pub passed_not : (full t : ℕ) → full ≤ t → Passed full t full
-passed_not full t h = record { least = omega arith; most = omega arith; each = λ i l. inl l }

@@ -1,6 +1,7 @@
 -- What one raise asks and gives, as the code makes it, and what the loop and all of repair ask. Assumes nothing.
-use Rattle.std.specs.Prelude.{ℕ, suc, ◌+◌, ◌-◌, ◌*◌, ◌≤◌, ◌<◌, ◌^◌, ◌≡◌, refl, List, length, get_or, set, ℤ, pos, nat_abs, ◌+ℤ◌, ◌<ℤ◌}
-use Rattle.std.proofs.Common.{sym, ap, ◌∙◌, arith}
+use Rattle.std.specs.Prelude.{ℕ, suc, ◌+◌, ◌-◌, ◌*◌, ◌≤◌, ◌<◌, ◌^◌, ◌≡◌, List, length, get_or, set, ℤ, pos, nat_abs, ◌+ℤ◌, ◌<ℤ◌, Option, None, Some}
+use Rattle.std.proofs.Common.{sym, ap, ◌∙◌, arith, to_z, of_z, SFits}
+use Rattle.std.specs.Int.{w64}
 use Rattle.definitions.specs.Lists.{total, total_abs}
 use Rattle.definitions.specs.Mesh.{weights_length}
 use Rattle.definitions.specs.Forward.{weight, forward}
@@ -9,6 +10,7 @@ use Rattle.laws.specs.Lists.{get_or_in, total_abs_in, total_abs-set}
 use Rattle.scratch_tables.specs.Tables.{tables_of}
 use Rattle.repair_model.specs.Ready.{Ready}
 use Rattle.repair_model.specs.LoopState.{Reached}
+use Rattle.repair_update.specs.Signed.{term_held, sum_fits, sum_held}
 use Rattle.repair_update.specs.WalkLoop.{UpdatePre, WalkMoved}
 
 -- ---- weights
@@ -45,6 +47,19 @@ module _ (ws : List ℤ) (t sum : ℕ) (x : ℤ) (S : SumPre ws t sum x) where
   pub weight_in_lem : nat_abs here ≤ limit
   weight_in_lem = weight_light ws (t - 1) place_in S.light
 
+  -- the old and the new weight, as the code has them
+  room : nat_abs here + nat_abs x < 2 ^ 63
+  room = omega (arith, weight_in_lem, S.small)
+
+  pub here_held : to_z w64 (of_z w64 here) ≡ here
+  here_held = term_held here x room
+
+  pub raised_fits : SFits w64 (to_z w64 (of_z w64 here) +ℤ x)
+  raised_fits = sum_fits here x room
+
+  pub raised_held : to_z w64 (of_z w64 (to_z w64 (of_z w64 here) +ℤ x)) ≡ here +ℤ x
+  raised_held = sum_held here x room
+
   pub sum_without : (old : ℕ) → old ≡ nat_abs here → old ≤ sum
   sum_without old e = omega (arith, total_abs_in (get_or_in ws (t - 1) (pos 0) place_in), S.summed)
 
@@ -79,11 +94,13 @@ pub record Tried (n : ℕ) (s ws bs ws' bs' : List ℤ) (t : ℕ) (x : ℤ) (r :
   pub kept : limit < r → (ws' ≡ ws) × (bs' ≡ bs)
   pub made : r ≤ limit → (ws' ≡ add_to ws t x) × WalkMoved n (tables_of s) t x bs bs'
 
+-- the same of what the code gives: the sum with the raise, if it is made, and nothing, if it is not
+abbrev pub Attempted : ℕ → List ℤ → List ℤ → List ℤ → List ℤ → List ℤ → ℕ → ℤ → Option ℕ → Type 0
+Attempted n s ws bs ws' bs' t x None = (r : ℕ) × (limit < r) × Tried n s ws bs ws' bs' t x r
+Attempted n s ws bs ws' bs' t x (Some r) = (r ≤ limit) × Tried n s ws bs ws' bs' t x r
+
 -- y is x, as the calls were handed it
 module _ (n : ℕ) (s ws bs : List ℤ) (t r : ℕ) (x y : ℤ) (ey : y ≡ x) (er : r ≡ total_abs (add_to ws t y)) where
-  pub tried_kept : limit < r → Tried n s ws bs ws bs t x r
-  tried_kept h = record { sum = rw ey at er; kept = λ l. (refl, refl); made = λ l. absurd (omega arith) }
-
   pub tried_made : (ws' bs' : List ℤ) → r ≤ limit → ws' ≡ add_to ws t y → WalkMoved n (tables_of s) t y bs bs' → Tried n s ws bs ws' bs' t x r
   tried_made ws' bs' h ew G = record { sum = rw ey at er; kept = λ l. absurd (omega arith); made = λ l. (rw ey at ew, rw ey at G) }
 

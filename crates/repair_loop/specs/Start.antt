@@ -1,15 +1,14 @@
 -- How repair starts on a peeled mesh: its coordinates are drawn, its words packed, its preorders built, and the absolute values summed. Assumes nothing.
-use Rattle.std.specs.Prelude.{ℕ, ◌+◌, ◌≤◌, ◌<◌, ◌≡◌, false, List, length, get_or, ℤ, pos, nat_abs}
-use Rattle.std.proofs.Common.{sym, arith, drop_of_length-le, ltb-false}
-use Rattle.std.proofs.Math.Decide.{dec_lt}
+use Rattle.std.specs.Prelude.{ℕ, ◌≤◌, ◌<◌, ◌^◌, ◌≡◌, refl, false, List, length, ℤ, nat_abs}
+use Rattle.std.proofs.Common.{sym, arith, ltb-false}
+use Rattle.std.specs.List.{sum_by}
+use Rattle.std.proofs.lemmas.List.Recursion.{is_sum_by}
 use Rattle.definitions.specs.Lists.{total_abs}
 use Rattle.definitions.specs.Mesh.{weights_length, coordinates_length}
 use Rattle.definitions.specs.Forward.{forward}
 use Rattle.definitions.specs.Repair.{limit}
 use Rattle.definitions.specs.Refusals.{row9}
-use Rattle.laws.specs.Lists.{clash}
 use Rattle.scratch_tables.specs.Tables.{tables_of}
-use Rattle.maps_limits.specs.Limits.{Summed, summed_more, summed_past}
 use Rattle.labels_tables.specs.Peeling.{Peeling, peeling}
 use Rattle.labels_tables.specs.LabelledTables.{Peeled}
 use Rattle.repair_model.specs.PackedWords.{Packed, WalksPacked, with_rim}
@@ -22,17 +21,16 @@ use Rattle.repair_loop.specs.OneRaise.{ReadyPre}
 
 -- ---- the sum
 
-pub total-more : (ws : List ℤ) (i sum m : ℕ) → row9 ws ≡ false → i < length ws → m ≡ nat_abs (get_or ws i (pos 0)) → Summed ws i sum →
-    Summed ws (i + 1) (sum + m)
-total-more ws i sum m e h q S =
-    elim (dec_lt limit (sum + m)) [
-      | yes l ↦ clash (sym (summed_past ws i sum m h q l S)) e
-      | no l ↦ summed_more ws i sum m h q (omega (arith, l)) S
-    ]
-
-pub total-all : (ws : List ℤ) (i sum : ℕ) → length ws ≤ i → Summed ws i sum → sum ≡ total_abs ws
+pub summed_is : (ws : List ℤ) → sum_by nat_abs ws ≡ total_abs ws
 unfolding total_abs
-total-all ws i sum h S = let r = rw (drop_of_length-le ws h) at S.rest in omega (arith, r)
+summed_is ws = sym (is_sum_by total_abs nat_abs refl (λ _ _. refl) ws)
+
+light_is : (ws : List ℤ) → row9 ws ≡ false → total_abs ws ≤ limit
+unfolding row9
+light_is ws e = ltb-false limit (total_abs ws) e
+
+pub summed_fits : (ws : List ℤ) → row9 ws ≡ false → sum_by nat_abs ws < 2 ^ 64
+summed_fits ws e = omega (arith, summed_is ws, light_is ws e)
 
 -- ---- what repair is called for
 
@@ -49,10 +47,6 @@ pub pack_pre : (n : ℕ) (ws bs s : List ℤ) → StartPre n ws bs s → PackPre
 pack_pre n ws bs s S =
     let l = S.peeled.labelled in
     record { some = l.sphere.least; few = l.most; room = l.room; inside = in_range S.peeled }
-
-light_is : (ws : List ℤ) → row9 ws ≡ false → total_abs ws ≤ limit
-unfolding row9
-light_is ws e = ltb-false limit (total_abs ws) e
 
 -- s₁ has the words packed, s₂ the preorders built as well
 module _ (n : ℕ) (s s₁ s₂ : List ℤ) (L : Packed n (with_rim (peeling s)) (tables_of s₁)) (N : WalksPacked n (with_rim (peeling s)) (tables_of s₁))

@@ -15,50 +15,47 @@ ghost use Rattle.labels_tables.specs.LabelledTables.{Peeled};
 ghost use Rattle.repair_model.specs.Search.{raise_at};
 ghost use Rattle.repair_model.specs.Ready.{Ready};
 ghost use Rattle.repair_model.specs.LoopState.{Reached, Passed};
-ghost use Rattle.repair_search.specs.SearchLoops.{CornersIn};
-ghost use Rattle.repair_loop.specs.OneRaise.{SumPre, RaisePre, Tried, LoopPre, ReadyPre, FirstPre};
+ghost use Rattle.repair_loop.specs.OneRaise.{SumPre, RaisePre, Attempted, LoopPre, ReadyPre, FirstPre};
 ghost use Rattle.repair_loop.specs.Answer.{Halts, Ends};
 ghost use Rattle.repair_loop.specs.Start.{StartPre};
 
-// How the loop ended, with the count of raises: no triangle is bad any more, or the next raise would break 9.
+use repair_search::Drawing;
+
+// The next raise would break 9; so many raises have been made.
 #[derive(Clone, Copy)]
-pub enum Ended {
-    Finished(usize),
-    Stopped(usize),
+pub struct Stopped {
+    pub raises: usize,
 }
 
 // the sum of the absolute values once the weight of triangle t is raised by x
-fn sum_after(weights: &[i64], t: usize, sum: usize, x: i64) -> usize
+fn sum_after(weights: &[i64], t: usize, sum: u64, x: i64) -> u64
     requires { SumPre weights.now t sum x }
     ensures { result ≡ total_abs (add_to weights.now t x) }
 {
-    let w = int64::get(weights, t - 1);
-    let y = int64::plus(w, x);
-    let old = int64::magnitude(w);
-    let new = int64::magnitude(y);
-    sum - old + new
+    let w = weights[t - 1];
+    sum - w.unsigned_abs() + (w + x).unsigned_abs()
 }
 
-// Triangle t is raised by x, if the sum of the absolute values then stays within the limit. That sum is returned.
+// Triangle t is raised by x and the sum of the absolute values after it returned, if that stays within the limit.
 fn try_raise(
     n: usize,
     weights: &mut [i64],
     coordinates: &mut [i64],
     scratch: &[i64],
     t: usize,
-    sum: usize,
+    sum: u64,
     x: i64,
-) -> usize
+) -> Option<u64>
     requires { RaisePre n weights.old coordinates.old scratch.now t sum x }
-    ensures { Tried n scratch.now weights.old coordinates.old weights.new coordinates.new t x result }
+    ensures { Attempted n scratch.now weights.old coordinates.old weights.new coordinates.new t x result }
 {
     let new = sum_after(weights, t, sum, x);
     if new > maps_limits::LIMIT {
-        return new;
+        return None;
     }
-    repair_update::add_at(weights, t - 1, x);
+    weights[t - 1] += x;
     repair_update::add_raise(n, coordinates, scratch, t, x);
-    new
+    Some(new)
 }
 
 // Triangles below `full` are fully extended, and t has been raised: below what all are extended now.
@@ -70,48 +67,45 @@ fn extended_after(full: usize, t: usize) -> usize
 }
 
 // While some inner triangle is bad, the lowest-numbered one is raised. `raised` is 1 after the first raise, of triangle 1, and 0 without it. An extended
-// triangle stays so; those that all are, up to the first that is not, are not looked at again.
+// triangle stays so; those that all are, up to the first that is not, are not looked at again. A search borrows the drawing anew, since a raise writes it.
 fn raise_all(
     n: usize,
     weights: &mut [i64],
     coordinates: &mut [i64],
     scratch: &[i64],
-    sum: usize,
+    sum: u64,
     raised: usize,
-) -> Ended
+) -> Result<usize, Stopped>
     requires { LoopPre n weights.old coordinates.old scratch.now sum raised }
     ensures { (ts ls : List ℕ) (lent : List ℤ) →
         Reached n ts ls lent weights.old coordinates.old scratch.now sum raised (raised + 1) →
         Halts n ts ls lent weights.new coordinates.new result }
 {
-    let end = 2 * n - 4;
+    let triangles = 2 * n - 4;
     let mut total = sum;
     let mut count = raised;
     let mut full = raised + 1;
-    let mut t = repair_search::first_bad(coordinates, scratch, full, end);
-    while t < end {
-        let x = repair_search::raise_at(coordinates, scratch, t);
-        let tried = try_raise(n, weights, coordinates, scratch, t, total, x);
-        if tried > maps_limits::LIMIT {
-            return Ended::Stopped(count);
-        }
+    let mut next = Drawing::new(coordinates, scratch, triangles).first_bad(full);
+    while let Some(t) = next {
+        let x = Drawing::new(coordinates, scratch, triangles).raise_at(t);
+        let Some(tried) = try_raise(n, weights, coordinates, scratch, t, total, x) else {
+            return Err(Stopped { raises: count });
+        };
         total = tried;
         count += 1;
-        let next = repair_search::next_bad(coordinates, scratch, full, t, end);
+        next = Drawing::new(coordinates, scratch, triangles).next_bad(full, t);
         full = extended_after(full, t);
-        t = next;
     }
-    Ended::Finished(count)
+    Ok(count)
 }
 
 // what triangle 1 is raised by where the total is below 1: the larger of its own raise and what the total lacks to 1
-fn first_raise(coordinates: &[i64], scratch: &[i64], total: i64) -> i64
-    requires { CornersIn scratch.now coordinates.now 1 × (nat_abs total ≤ limit) }
-    ensures { result ≡ max_z (raise_at (tables_of scratch.now) coordinates.now 1) (pos 1 -ℤ total) }
+fn first_raise(drawing: Drawing, total: i64) -> i64
+    requires { (1 < drawing.triangles) × (nat_abs total ≤ limit) }
+    ensures { result ≡ max_z (raise_at (tables_of drawing.entry.scratch.now) drawing.entry.coordinates.now 1) (pos 1 -ℤ total) }
 {
-    let own = repair_search::raise_at(coordinates, scratch, 1);
-    let lack = int64::minus(1, total);
-    repair_area::greater(own, lack)
+    let own = drawing.raise_at(1);
+    own.max(1 - total)
 }
 
 // Where the total is below 1, triangle 1 is raised first; after that the loop runs.
@@ -120,19 +114,18 @@ fn make_first_raise(
     weights: &mut [i64],
     coordinates: &mut [i64],
     scratch: &[i64],
-    sum: usize,
+    sum: u64,
     total: i64,
-) -> Ended
+) -> Result<usize, Stopped>
     requires { FirstPre n weights.old coordinates.old scratch.now sum total }
     ensures { (ts ls : List ℕ) → Ready n ts ls scratch.now →
         coordinates.old ≡ forward n ts ls weights.old →
         Halts n ts ls weights.old weights.new coordinates.new result }
 {
-    let x = first_raise(coordinates, scratch, total);
-    let tried = try_raise(n, weights, coordinates, scratch, 1, sum, x);
-    if tried > maps_limits::LIMIT {
-        return Ended::Stopped(0);
-    }
+    let x = first_raise(Drawing::new(coordinates, scratch, 2 * n - 4), total);
+    let Some(tried) = try_raise(n, weights, coordinates, scratch, 1, sum, x) else {
+        return Err(Stopped { raises: 0 });
+    };
     raise_all(n, weights, coordinates, scratch, tried, 1)
 }
 
@@ -142,16 +135,16 @@ fn raise_from_start(
     weights: &mut [i64],
     coordinates: &mut [i64],
     scratch: &[i64],
-    sum: usize,
+    sum: u64,
     v0: usize,
-) -> Ended
+) -> Result<usize, Stopped>
     requires { ReadyPre n weights.old coordinates.old scratch.now sum × (v0 ≡ (peeling scratch.now).origin 0) }
     ensures { (ts ls : List ℕ) → Ready n ts ls scratch.now →
         coordinates.old ≡ forward n ts ls weights.old →
         Halts n ts ls weights.old weights.new coordinates.new result }
 {
     let total = maps_limits::coordinate_at(coordinates, 0, v0);
-    if int64::at_most(1, total) {
+    if 1 <= total {
         raise_all(n, weights, coordinates, scratch, sum, 0)
     } else {
         make_first_raise(n, weights, coordinates, scratch, sum, total)
@@ -164,8 +157,8 @@ fn raise_and_draw(
     weights: &mut [i64],
     coordinates: &mut [i64],
     scratch: &[i64],
-    sum: usize,
-) -> Ended
+    sum: u64,
+) -> Result<usize, Stopped>
     requires { ReadyPre n weights.old coordinates.old scratch.now sum }
     ensures { (ts ls : List ℕ) → Ready n ts ls scratch.now →
         coordinates.old ≡ forward n ts ls weights.old →
@@ -178,17 +171,12 @@ fn raise_and_draw(
 }
 
 // the sum of the absolute values of weights that 9 lets through
-fn sum_of_absolutes(weights: &[i64]) -> usize
+#[tactic(auto, using(crate::specs::Start::summed_is, crate::specs::Start::summed_fits))]
+fn sum_of_absolutes(weights: &[i64]) -> u64
     requires { row9 weights.now ≡ false }
     ensures { result ≡ total_abs weights.now }
 {
-    let mut sum: usize = 0;
-    let mut i = 0;
-    while i < weights.len() {
-        sum += int64::magnitude(int64::get(weights, i));
-        i += 1;
-    }
-    sum
+    weights.iter().map(|w| w.unsigned_abs()).sum()
 }
 
 // The weights are repaired, and their coordinates written. What the lent coordinates hold before does not matter.
@@ -197,7 +185,7 @@ pub fn repair_labelled(
     weights: &mut [i64],
     coordinates: &mut [i64],
     scratch: &mut [i64],
-) -> Ended
+) -> Result<usize, Stopped>
     requires { StartPre n weights.old coordinates.old scratch.old }
     ensures { (ts ls : List ℕ) → Peeled n ts ls scratch.old →
         Ends n ts ls weights.old weights.new coordinates.new result }

@@ -2,6 +2,7 @@
 pub mod Model
 pub mod KeptWords
 pub mod LoopInvariants
+pub mod Passing
 pub mod PreorderBuilt
 pub mod RootedForest
 pub mod ForestOfMesh

@@ -2,11 +2,11 @@
 use Prim.Native.Nat.{ℕ, zero, suc, ◌+◌, ◌-◌, ◌*◌, ◌%◌, ◌≤◌, ◌<◌}
 use Rattle.std.specs.Prelude.{◌≡◌, ◌≢◌, List, eqb, length, ℤ}
 use Rattle.std.proofs.Math.Path.{refl, ap}
-use Rattle.std.proofs.Common.{sym, ◌∙◌, inl, inr, eq-eqb, ne_eqb, lt-ltb, le-ltb}
+use Rattle.std.proofs.Common.{sym, ◌∙◌, inl, inr, eq-eqb, ne_eqb, lt-ltb}
 use native.Mathlib.Omega.{arith}
 use Rattle.std.proofs.Math.Decide.{ℕ_discrete}
 use Rattle.laws.specs.Lists.{tested}
-use Rattle.scratch_tables.specs.Tables.{Tables, tables_of, vertex_in, set_op, set_head, set_count, set_mark, upd_other}
+use Rattle.scratch_tables.specs.Tables.{Tables, tables_of, set_op, set_head, set_count, set_mark, upd_other}
 use Rattle.scratch_tables.specs.Fields.{pack, field0, field1, field2, field3, field3_is, field0_small}
 use Rattle.labels_tables.specs.Peeling.{peeling}
 use Rattle.repair_preorder.specs.Model.{upward, downward, parent, init_size, add_size, init_root, allocate_range, with_range, store_range, clamp_index}
@@ -109,6 +109,23 @@ pass_pre_odd o e P =
       right = λ k h. rw (o.odd k) (P.right k h);
     }
 
+-- each store keeps it
+module _ {n words words' : ℕ} {S S' : Tables} (v x : ℕ) where
+  pub mark_kept : S' ≡ set_mark (2 * v) x S → PassPre n words S → words' ≡ words → PassPre n words' S'
+  mark_kept e P l = rw e (pass_pre_odd (odd_mark v x S) l P)
+
+  pub head_kept : S' ≡ set_head v x S → PassPre n words S → words' ≡ words → PassPre n words' S'
+  unfolding set_head
+  head_kept e P l = rw e (pass_pre_odd (record { odd = λ k. refl }) l P)
+
+  pub count_kept : S' ≡ set_count v x S → PassPre n words S → words' ≡ words → PassPre n words' S'
+  unfolding set_count
+  count_kept e P l = rw e (pass_pre_odd (record { odd = λ k. refl }) l P)
+
+  pub op_kept : S' ≡ set_op v x S → PassPre n words S → words' ≡ words → PassPre n words' S'
+  unfolding set_op
+  op_kept e P l = rw e (pass_pre_odd (record { odd = λ k. refl }) l P)
+
 -- and the words of walks across sides of the colour name vertices
 pub record WalksIn (n colour : ℕ) (S : Tables) : Type 0 where
   pub tails : (t : ℕ) → 0 < t → t < 2 * n - 4 → field3 (S.op (3 * t)) ≡ colour + 1 → parent colour (S.op (3 * t)) < n
@@ -118,97 +135,34 @@ walks_kept n colour S S' e W = record { tails = λ t h l. rw e (W.tails t h l) }
 
 -- ---- the loops
 
--- k steps are done
-pub record Up (f : ℕ → Tables → Tables) (s₀ s : List ℤ) (k : ℕ) : Type 0 where
-  pub long : length s ≡ length s₀
-  pub is : tables_of s ≡ upward f k (tables_of s₀)
+-- one step more
+pub up_next : (f : ℕ → Tables → Tables) (S₀ S S' : Tables) (k : ℕ) → S ≡ upward f k S₀ → S' ≡ f k S → S' ≡ upward f (k + 1) S₀
+unfolding upward
+up_next f S₀ S S' k e e' = let q : k + 1 ≡ suc k = omega arith in rw q (e' ∙ ap (f k) e)
 
--- k steps are left of m
-pub record Down (f : ℕ → Tables → Tables) (m : ℕ) (s₀ s : List ℤ) (k : ℕ) : Type 0 where
-  pub long : length s ≡ length s₀
-  pub low : k ≤ m
-  pub odd : Odd (tables_of s₀) (tables_of s)
-  pub rest : downward f k (tables_of s) ≡ downward f m (tables_of s₀)
-
-module _ (f : ℕ → Tables → Tables) (s₀ s : List ℤ) (k : ℕ) (U : Up f s₀ s k) where
-  pub up_next : (s' : List ℤ) → length s' ≡ length s → tables_of s' ≡ f k (tables_of s) → Up f s₀ s' (k + 1)
-  unfolding upward
-  up_next s' l e =
-      let q : k + 1 ≡ suc k = omega arith in
-      record { long = l ∙ U.long; is = rw q (e ∙ ap (f k) U.is) }
-
-  pub up_pass_pre : (n : ℕ) → ((k : ℕ) (S : Tables) → Odd S (f k S)) → PassPre n (length s₀) (tables_of s₀) → PassPre n (length s) (tables_of s)
-  up_pass_pre n o P = rw U.is (pass_pre_odd (odd_upward f o k (tables_of s₀)) U.long P)
-
-module _ (f : ℕ → Tables → Tables) (m : ℕ) (s₀ s : List ℤ) (k : ℕ) (D : Down f m s₀ s k) where
-  pub down_next : (s' : List ℤ) → ((k : ℕ) (S : Tables) → Odd S (f k S)) → 0 < k → length s' ≡ length s →
-      tables_of s' ≡ f (k - 1) (tables_of s) → Down f m s₀ s' (k - 1)
+-- k steps are left, and come to R
+module _ (f : ℕ → Tables → Tables) (S S' R : Tables) (k : ℕ) (D : downward f k S ≡ R) where
+  pub down_next : 0 < k → S' ≡ f (k - 1) S → downward f (k - 1) S' ≡ R
   unfolding downward
-  down_next s' o h l e =
+  down_next h e =
       let q : k ≡ suc (k - 1) = omega arith in
-      record {
-        long = l ∙ D.long;
-        low = omega (arith, D.low);
-        odd = rw e (odd_then D.odd (o (k - 1) (tables_of s)));
-        rest = rw e (rw q at D.rest);
-      }
+      rw e (rw q at D)
 
-  pub down_ends : k ≡ 0 → tables_of s ≡ downward f m (tables_of s₀)
+  pub down_ends : k ≤ 0 → S ≡ R
   unfolding downward
-  down_ends e = rw e at D.rest
+  down_ends h = let e : k ≡ 0 = omega arith in rw e at D
 
-  pub down_pass_pre : (n : ℕ) → PassPre n (length s₀) (tables_of s₀) → PassPre n (length s) (tables_of s)
-  down_pass_pre n P = pass_pre_odd D.odd D.long P
+-- what a step reads of the k-th vertex that left
+module _ {n words : ℕ} {S : Tables} (k w : ℕ) (P : PassPre n words S) (h : k < n - 2) (e : w ≡ S.mark (2 * k + 1)) where
+  pub removed_low : (v : ℕ) → v ≡ field0 w → v < n
+  removed_low v q = rw (q, e) (P.removed k h)
 
-pub parent_low : {n words : ℕ} {S : Tables} (colour k : ℕ) → PassPre n words S → k < n - 2 → parent colour (S.mark (2 * k + 1)) < n
-unfolding parent
-parent_low colour k P h = elim (tested (eqb colour 0)) [ inl e ↦ rw e (P.left k h) | inr e ↦ rw e (P.right k h) ]
+  pub parent_low : (colour u : ℕ) → u ≡ parent colour w → u < n
+  unfolding parent
+  parent_low colour u q = rw (q, e) (elim (tested (eqb colour 0)) [ inl b ↦ rw b (P.left k h) | inr b ↦ rw b (P.right k h) ])
 
--- ---- the steps
-
-pub parent-0 : (w colour u : ℕ) → colour ≡ 0 → u ≡ field1 w → u ≡ parent colour w
-unfolding parent
-parent-0 w colour u e eu = rw (eq-eqb colour 0 e) eu
-
-pub parent-1 : (w colour u : ℕ) → colour ≢ 0 → u ≡ field2 w → u ≡ parent colour w
-unfolding parent
-parent-1 w colour u e eu = rw (ne_eqb colour 0 e) eu
-
--- a field f of the word w is a vertex that there is
-pub field_room : (f : ℕ → ℕ) (w m v words : ℕ) → v ≡ f w → w ≡ m → vertex_in words (f m) → vertex_in words v
-field_room f w m v words e q h = rw (e, q) h
-
--- so is the tail that the word of a walk names, where the walk goes across a side of the colour
-pub tail_room : (colour w f v words : ℕ) → f ≡ field3 w → f ≡ colour + 1 → v ≡ parent colour w → (field3 w ≡ colour + 1 → vertex_in words (parent colour w)) →
-    vertex_in words v
-tail_room colour w f v words ef e ev h = rw ev (h (sym ef ∙ e))
-
-pub word_room : (colour w m words : ℕ) → w ≡ m → (field3 m ≡ colour + 1 → vertex_in words (parent colour m)) →
-    field3 w ≡ colour + 1 → vertex_in words (parent colour w)
-word_room colour w m words e h = rw e h
-
-pub add_size_is : (colour k w u a v b : ℕ) (T T' : Tables) → w ≡ T.mark (2 * k + 1) → u ≡ parent colour w → a ≡ T.mark (2 * u) → v ≡ field0 w
-    → b ≡ T.mark (2 * v) →
-    T' ≡ set_mark (2 * u) ((a + b) % 65536) T → T' ≡ add_size colour k T
-unfolding add_size
-add_size_is colour k w u a v b T T' ew eu ea ev eb et = et ∙ rw (ea, eb, eu, ev, ew)
-
-pub allocate_range_is : (colour k w v u e b r : ℕ) (T T' T'' : Tables) → w ≡ T.mark (2 * k + 1) → v ≡ field0 w → u ≡ parent colour w →
-    e ≡ T.head u → b ≡ T.mark (2 * v) →
-    r ≡ e - b → T' ≡ set_head v e T → T'' ≡ set_head u r T' → T'' ≡ allocate_range colour k T
-unfolding allocate_range
-allocate_range_is colour k w v u e b r T T' T'' ew ev eu ee eb er e1 e2 = e2 ∙ rw (e1, er, ee, eb, ev, eu, ew)
-
-module _ (colour w : ℕ) (T : Tables) where
-  pub with_range_is : (f v h m from b size a : ℕ) → f ≡ field3 w → f ≡ colour + 1 → v ≡ parent colour w → h ≡ T.head v → m ≡ h - 1 →
-      from ≡ field0 m → b ≡ T.mark (2 * v) → size ≡ field0 b → a ≡ field0 w → pack a from size f ≡ with_range colour w T
-  unfolding with_range
-  with_range_is f v h m from b size a ef e ev eh em efr eb es ea =
-      rw (eq-eqb (field3 w) (colour + 1) (sym ef ∙ e)) (rw (ef, efr, em, eh, es, eb, ea, ev))
-
-  pub with_range-not : (f : ℕ) → f ≡ field3 w → f ≢ colour + 1 → w ≡ with_range colour w T
-  unfolding with_range
-  with_range-not f ef d = rw (ne_eqb (field3 w) (colour + 1) (λ q. d (ef ∙ q)))
+-- both, for the code's calls on them
+pub ruleset steps = (removed_low, parent_low)
 
 pub store_range_is : (colour t w r : ℕ) (T T' : Tables) → 0 < t → w ≡ T.op (3 * t) → r ≡ with_range colour w T → T' ≡ set_op (3 * t) r T →
     T' ≡ store_range colour t T
@@ -218,76 +172,15 @@ store_range_is colour t w r T T' h ew er et =
     let e : store_range colour t T ≡ set_op (3 * suc (t - 1)) (with_range colour (T.op (3 * suc (t - 1))) T) T = ap (λ (x : ℕ). store_range colour x T) q in
     et ∙ rw (er, ew) (rw (sym q) at (sym e))
 
+pub with_range-not : (colour w : ℕ) (T : Tables) (f : ℕ) → f ≡ field3 w → f ≢ colour + 1 → w ≡ with_range colour w T
+unfolding with_range
+with_range-not colour w T f ef d = rw (ne_eqb (field3 w) (colour + 1) (λ q. d (ef ∙ q)))
+
 pub clamp_index_in : (n i : ℕ) → i < n → i ≡ clamp_index n i
 unfolding clamp_index
 clamp_index_in n i h = rw (lt-ltb i n h)
 
-pub clamp_index_out : (n i : ℕ) → n ≤ i → 0 ≡ clamp_index n i
-unfolding clamp_index
-clamp_index_out n i h = rw (le-ltb i n h)
-
-pub store_entry-0 : (colour i x : ℕ) (T T' : Tables) → colour ≡ 0 → T' ≡ set_count i x T → T' ≡ store_entry colour i x T
-unfolding store_entry
-store_entry-0 colour i x T T' e et = et ∙ rw (eq-eqb colour 0 e)
-
-pub store_entry-1 : (colour i x : ℕ) (T T' : Tables) → colour ≢ 0 → T' ≡ set_mark (2 * i) x T → T' ≡ store_entry colour i x T
-unfolding store_entry
-store_entry-1 colour i x T T' e et = et ∙ rw (ne_eqb colour 0 e)
-
-pub store_vertex_is : (n colour k w v h m i : ℕ) (T T' : Tables) → w ≡ T.mark (2 * k + 1) → v ≡ field0 w → h ≡ T.head v → m ≡ h - 1 →
-    i ≡ clamp_index n m →
-    T' ≡ store_entry colour i v T → T' ≡ store_vertex n colour k T
-unfolding store_vertex
-store_vertex_is n colour k w v h m i T T' ew ev eh em ei et = et ∙ rw (ei, em, eh, ev, ew)
-
 -- ---- one pass after another
-
-pub sizes_computed_is : (n colour : ℕ) (T T' T'' : Tables) → T' ≡ upward init_size n T → T'' ≡ upward (add_size colour) (n - 2) T' →
-    T'' ≡ sizes_computed n colour T
-unfolding sizes_computed
-sizes_computed_is n colour T T' T'' e f = rw (f, e)
-
-pub init_root_is : (root z : ℕ) (T T' : Tables) → z ≡ T.mark (2 * root) → T' ≡ set_head root z T → T' ≡ init_root root T
-unfolding init_root
-init_root_is root z T T' ez e = rw (e, ez)
-
-pub positions_computed_is : (n colour root : ℕ) (T T' T'' : Tables) → T' ≡ init_root root T → T'' ≡ downward (allocate_range colour) (n - 2) T' →
-    T'' ≡ positions_computed n colour root T
-unfolding positions_computed
-positions_computed_is n colour root T T' T'' e f = rw (f, e)
-
--- each pass leaves what the next one asks for
-module _ {n words words' : ℕ} (T T' : Tables) where
-  passes : (F : Tables) → T' ≡ F → Odd T F → words' ≡ words → PassPre n words T → PassPre n words' T'
-  passes F e o l P = rw e (pass_pre_odd o l P)
-
-  pub ones_pass : T' ≡ upward init_size n T → words' ≡ words → PassPre n words T → PassPre n words' T'
-  ones_pass e = passes _ e (odd_upward init_size odd_one n T)
-
-  pub sizes_pass : (colour : ℕ) → T' ≡ sizes_computed n colour T → words' ≡ words → PassPre n words T → PassPre n words' T'
-  sizes_pass colour e = passes _ e (odd_sizes n colour T)
-
-  pub root_passes : (root z : ℕ) → z ≡ T.mark (2 * root) → T' ≡ set_head root z T → words' ≡ words → PassPre n words T →
-      PassPre n words' T'
-  root_passes root z ez e = passes _ (init_root_is root z T T' ez e) (odd_root root T)
-
-  pub positions_pass : (colour root : ℕ) → T' ≡ positions_computed n colour root T → words' ≡ words → PassPre n words T →
-      PassPre n words' T'
-  positions_pass colour root e = passes _ e (odd_positions n colour root T)
-
-  pub ranges_pass : (colour : ℕ) → T' ≡ upward (store_range colour) (2 * n - 4) T → words' ≡ words → PassPre n words T →
-      PassPre n words' T'
-  ranges_pass colour e = passes _ e (odd_upward (store_range colour) (odd_range colour) (2 * n - 4) T)
-
-  pub preorder-passes : (colour root : ℕ) → T' ≡ preorder_built n colour root T → words' ≡ words → PassPre n words T →
-      PassPre n words' T'
-  preorder-passes colour root e = passes _ e (odd_built n colour root T)
-
-pub preorder_built_is : (n colour root : ℕ) (T T₁ T₂ T₃ T₄ : Tables) → T₁ ≡ sizes_computed n colour T → T₂ ≡ positions_computed n colour root T₁
-    → T₃ ≡ upward (store_range colour) (2 * n - 4) T₂ →
-    T₄ ≡ upward (store_vertex n colour) (n - 2) T₃ → T₄ ≡ preorder_built n colour root T
-unfolding preorder_built
-preorder_built_is n colour root T T₁ T₂ T₃ T₄ e₁ e₂ e₃ e₄ = rw (e₄, e₃, e₂, e₁)
 
 -- the words of walks after the first two passes, and those across sides of colour 1 after all passes of colour 0
 module _ (n colour : ℕ) (T T' : Tables) where
@@ -323,12 +216,11 @@ module _ (n root : ℕ) (T : Tables) where
       })
 
 -- the words of triangle t before they are stored
-pub range_pre : (n colour : ℕ) (s₀ s : List ℤ) (t : ℕ) → Up (store_range colour) s₀ s t → WalksIn n colour (tables_of s₀) →
-    10 * n ≤ length s₀ → 0 < t → t < 2 * n - 4 → field3 ((tables_of s).op (3 * t)) ≡ colour + 1 →
-    vertex_in (length s) (parent colour ((tables_of s).op (3 * t)))
-range_pre n colour s₀ s t U W room h l =
-    let e : (tables_of s).op (3 * t) ≡ (tables_of s₀).op (3 * t) = ap (λ (T : Tables). T.op (3 * t)) U.is ∙ ranges_out colour t t (tables_of s₀) (omega arith) in
-    rw e (λ f. omega (arith, W.tails t h l f, room, U.long))
+pub range_pre : (n colour : ℕ) (S₀ S : Tables) (t : ℕ) → S ≡ upward (store_range colour) t S₀ → WalksIn n colour S₀ → 0 < t → t < 2 * n - 4 →
+    field3 (S.op (3 * t)) ≡ colour + 1 → parent colour (S.op (3 * t)) < n
+range_pre n colour S₀ S t U W h l =
+    let e : S.op (3 * t) ≡ S₀.op (3 * t) = ap (λ (T : Tables). T.op (3 * t)) U ∙ ranges_out colour t t S₀ (omega arith) in
+    rw e (W.tails t h l)
 
 -- scratch as it is before both colours
 pub record PreorderPre (n : ℕ) (s : List ℤ) : Type 0 where

@@ -5,8 +5,8 @@
 #![tactic(auto)]
 
 ghost use Rattle.std.specs.Prelude.{◌≡◌, ◌+◌, ◌-◌, ◌*◌, ◌<◌, ◌≤◌, ◌^◌, length};
-ghost use Rattle.scratch_tables.specs.Tables.{tables_of, dart_in, vertex_in, set_head, set_mark};
-ghost use Rattle.scratch_tables.specs.Fields.{field0, field3};
+ghost use Rattle.scratch_tables.specs.Tables.{tables_of, set_head, set_mark};
+ghost use Rattle.scratch_tables.specs.Fields.{field3};
 ghost use Rattle.labels_tables.specs.Peeling.{Peeling};
 ghost use Rattle.repair_model.specs.PackedWords.{Packed, WalksPacked};
 ghost use Rattle.repair_model.specs.PreorderWords.{Preordered};
@@ -15,227 +15,253 @@ ghost use Rattle.repair_preorder.specs.Model.{store_entry, store_vertex, sizes_c
 ghost use Rattle.repair_preorder.specs.LoopInvariants.{PassPre, WalksIn, PreorderPre};
 ghost use Rattle.repair_preorder.specs.RootedForest.{RootedForest};
 
-use int64::saturating_sub;
 use labels_tables::origin;
 use repair_words::{removed_at, walk_at};
-use scratch_tables::{
-    field0, field1, field2, field3, pack, set_count, set_extra, set_head, set_op,
-};
+use scratch_tables::{Column, field, pack, set_op, set_word};
 
-// in the word of a vertex that left, its parent; in the word of a triangle, the tail of its side
+// In the word of a vertex that left, its parent; in the word of a triangle, the tail of its side. A colour is the number 0 or 1 of document 01, since
+// `colour + 1` is the number in a triangle's word that says of which colour its side is.
+#[tactic(auto, unfolding(crate::specs::Model::parent))]
 fn parent(w: usize, colour: usize) -> usize
     ensures is { result ≡ parent colour w }
     ensures small { result < 65536 }
 {
     if colour == 0 {
-        return field1(w);
-    }
-    field2(w)
-}
-
-// While a preorder is built: the size of the subtree of vertex v, and where its range ends.
-fn subtree_size(scratch: &[i64], v: usize) -> usize
-    requires { vertex_in (length scratch.now) v }
-    ensures is { result ≡ (tables_of scratch.now).mark (2 * v) }
-    ensures small { result < 2 ^ 63 }
-{
-    scratch_tables::extra_word(scratch, v)
-}
-
-fn set_subtree_size(scratch: &mut [i64], v: usize, size: usize)
-    requires { vertex_in (length scratch.old) v × (size < 2 ^ 63) }
-    ensures { tables_of scratch.new ≡ set_mark (2 * v) size (tables_of scratch.old) }
-{
-    set_extra(scratch, v, size);
-}
-
-fn range_end(scratch: &[i64], v: usize) -> usize
-    requires { vertex_in (length scratch.now) v }
-    ensures is { result ≡ (tables_of scratch.now).head v }
-    ensures small { result < 2 ^ 63 }
-{
-    scratch_tables::vertex_word(scratch, v)
-}
-
-fn set_range_end(scratch: &mut [i64], v: usize, end: usize)
-    requires { vertex_in (length scratch.old) v × (end < 2 ^ 63) }
-    ensures { tables_of scratch.new ≡ set_head v end (tables_of scratch.old) }
-{
-    set_head(scratch, v, end);
-}
-
-// each vertex for itself
-fn init_sizes(n: usize, scratch: &mut [i64])
-    requires { PassPre n (length scratch.old) (tables_of scratch.old) }
-    ensures { tables_of scratch.new ≡ upward init_size n (tables_of scratch.old) }
-{
-    let mut v = 0;
-    while v < n {
-        set_subtree_size(scratch, v, 1);
-        v += 1;
+        field::<1>(w)
+    } else {
+        field::<2>(w)
     }
 }
 
-// the k-th vertex that left, for its parent too
-fn add_size(scratch: &mut [i64], colour: usize, k: usize)
-    requires { vertex_in (length scratch.old) k × vertex_in (length scratch.old) (field0 ((tables_of scratch.old).mark (2 * k + 1)))
-        × vertex_in (length scratch.old) (parent colour ((tables_of scratch.old).mark (2 * k + 1))) }
-    ensures { tables_of scratch.new ≡ add_size colour k (tables_of scratch.old) }
-{
-    let w = removed_at(scratch, k);
-    let u = parent(w, colour);
-    let a = subtree_size(scratch, u);
-    let b = subtree_size(scratch, field0(w));
-    set_subtree_size(scratch, u, (a + b) % 65536);
-}
-
-fn accumulate_sizes(n: usize, scratch: &mut [i64], colour: usize)
-    requires { PassPre n (length scratch.old) (tables_of scratch.old) }
-    ensures { tables_of scratch.new ≡ upward (add_size colour) (n - 2) (tables_of scratch.old) }
-{
-    let mut k = 0;
-    while k < n - 2 {
-        add_size(scratch, colour, k);
-        k += 1;
-    }
-}
-
-// the k-th vertex that left takes its place from the end of what its parent has left
-fn allocate_range(scratch: &mut [i64], colour: usize, k: usize)
-    requires { vertex_in (length scratch.old) k × vertex_in (length scratch.old) (field0 ((tables_of scratch.old).mark (2 * k + 1)))
-        × vertex_in (length scratch.old) (parent colour ((tables_of scratch.old).mark (2 * k + 1))) }
-    ensures { tables_of scratch.new ≡ allocate_range colour k (tables_of scratch.old) }
-{
-    let w = removed_at(scratch, k);
-    let v = field0(w);
-    let u = parent(w, colour);
-    let end = range_end(scratch, u);
-    let rest = saturating_sub(end, subtree_size(scratch, v));
-    set_range_end(scratch, v, end);
-    set_range_end(scratch, u, rest);
-}
-
-fn allocate_ranges(n: usize, scratch: &mut [i64], colour: usize)
-    requires { PassPre n (length scratch.old) (tables_of scratch.old) }
-    ensures { tables_of scratch.new ≡ downward (allocate_range colour) (n - 2) (tables_of scratch.old) }
-{
-    let mut k = n - 2;
-    while 0 < k {
-        k -= 1;
-        allocate_range(scratch, colour, k);
-    }
-}
-
-// the word w with the place and the size of a subtree, if it leads across a side of the colour
-fn with_range(scratch: &[i64], colour: usize, w: usize) -> usize
-    requires { (w < 2 ^ 63) × (colour < 2) × (field3 w ≡ colour + 1 → vertex_in (length scratch.now) (parent colour w)) }
-    ensures is { result ≡ with_range colour w (tables_of scratch.now) }
-    ensures small { result < 2 ^ 63 }
-{
-    let f = field3(w);
-    if f == colour + 1 {
-        let v = parent(w, colour);
-        let from = field0(saturating_sub(range_end(scratch, v), 1));
-        let size = field0(subtree_size(scratch, v));
-        return pack(field0(w), from, size, f);
-    }
-    w
-}
-
-fn store_range(scratch: &mut [i64], colour: usize, t: usize)
-    requires { (0 < t) × dart_in (length scratch.old) (3 * t) × (colour < 2) × (field3 ((tables_of scratch.old).op (3 * t)) ≡ colour + 1 →
-        vertex_in (length scratch.old) (parent colour ((tables_of scratch.old).op (3 * t)))) }
-    ensures { tables_of scratch.new ≡ store_range colour t (tables_of scratch.old) }
-{
-    let w = walk_at(scratch, t);
-    let r = with_range(scratch, colour, w);
-    set_op(scratch, 3 * t, r);
-}
-
-fn store_ranges(n: usize, scratch: &mut [i64], colour: usize)
-    requires { PassPre n (length scratch.old) (tables_of scratch.old) × WalksIn n colour (tables_of scratch.old) × (colour < 2) }
-    ensures { tables_of scratch.new ≡ upward (store_range colour) (2 * n - 4) (tables_of scratch.old) }
-{
-    let mut t = 1;
-    while t < 2 * n - 4 {
-        store_range(scratch, colour, t);
-        t += 1;
-    }
-}
-
-// a place of the preorder, which has n
+// A place of the preorder, which has n. `min` would send the others to the last place, and the passes of the model send them to the first.
+#[tactic(auto, unfolding(crate::specs::Model::clamp_index))]
 fn clamp_index(n: usize, i: usize) -> usize
     requires { 0 < n }
     ensures is { result ≡ clamp_index n i }
     ensures small { result < n }
 {
-    if i < n {
-        return i;
+    if i < n { i } else { 0 }
+}
+
+// Scratch with the tables of n vertices. Whatever the passes store, the words of the vertices that left name vertices.
+#[derive(Drop)]
+struct Passes<'a> {
+    n: usize,
+    words: &'a mut [i64],
+    ghost named: { PassPre n (length words.now) (tables_of words.now) },
+}
+
+impl<'a> Passes<'a> {
+    ghost use Rattle.repair_preorder.specs.Passing.{tables, Becomes};
+
+    // the word of the k-th vertex that left
+    fn removed(&self, k: usize) -> usize
+        requires { k < self.now.n - 2 }
+        ensures is { result ≡ (tables self.now).mark (2 * k + 1) }
+        ensures small { result < 2 ^ 63 }
+    {
+        removed_at(self.words, k)
     }
-    0
-}
 
-fn store_entry(scratch: &mut [i64], colour: usize, i: usize, x: usize)
-    requires { vertex_in (length scratch.old) i × (x < 65536) }
-    ensures { tables_of scratch.new ≡ store_entry colour i x (tables_of scratch.old) }
-{
-    if colour == 0 {
-        set_count(scratch, i, x);
-        return;
+    // where the colour-2 walk of triangle t goes
+    fn walk(&self, t: usize) -> usize
+        requires { t < 2 * self.now.n - 4 }
+        ensures is { result ≡ (tables self.now).op (3 * t) }
+        ensures small { result < 2 ^ 63 }
+    {
+        walk_at(self.words, t)
     }
-    set_extra(scratch, i, x);
-}
 
-// the k-th vertex that left, at its place
-fn store_vertex(n: usize, scratch: &mut [i64], colour: usize, k: usize)
-    requires { vertex_in (length scratch.old) k × vertex_in (length scratch.old) (field0 ((tables_of scratch.old).mark (2 * k + 1)))
-        × (0 < n) × (10 * n ≤ length scratch.old) }
-    ensures { tables_of scratch.new ≡ store_vertex n colour k (tables_of scratch.old) }
-{
-    let v = field0(removed_at(scratch, k));
-    let i = clamp_index(n, saturating_sub(range_end(scratch, v), 1));
-    store_entry(scratch, colour, i, v);
-}
-
-fn store_vertices(n: usize, scratch: &mut [i64], colour: usize)
-    requires { PassPre n (length scratch.old) (tables_of scratch.old) }
-    ensures { tables_of scratch.new ≡ upward (store_vertex n colour) (n - 2) (tables_of scratch.old) }
-{
-    let mut k = 0;
-    while k < n - 2 {
-        store_vertex(n, scratch, colour, k);
-        k += 1;
+    // While a preorder is built: the size of the subtree of vertex v, and where its range ends.
+    fn subtree_size(&self, v: usize) -> usize
+        requires { v < self.now.n }
+        ensures is { result ≡ (tables self.now).mark (2 * v) }
+        ensures small { result < 2 ^ 63 }
+    {
+        scratch_tables::word(self.words, Column::EvenMark, v)
     }
-}
 
-// the sizes of the subtrees of a colour
-fn compute_sizes(n: usize, scratch: &mut [i64], colour: usize)
-    requires { PassPre n (length scratch.old) (tables_of scratch.old) }
-    ensures { tables_of scratch.new ≡ sizes_computed n colour (tables_of scratch.old) }
-{
-    init_sizes(n, scratch);
-    accumulate_sizes(n, scratch, colour);
-}
+    fn set_subtree_size(&mut self, v: usize, size: usize)
+        requires { (v < self.old.n) × (size < 2 ^ 63) }
+        ensures { Becomes self.old self.new (set_mark (2 * v) size (tables self.old)) }
+    {
+        set_word(self.words, Column::EvenMark, v, size);
+    }
 
-// their ranges: the root has all of the preorder
-fn compute_positions(n: usize, scratch: &mut [i64], colour: usize, root: usize)
-    requires { PassPre n (length scratch.old) (tables_of scratch.old) × (root < n) }
-    ensures { tables_of scratch.new ≡ positions_computed n colour root (tables_of scratch.old) }
-{
-    let size = subtree_size(scratch, root);
-    set_range_end(scratch, root, size);
-    allocate_ranges(n, scratch, colour);
-}
+    fn range_end(&self, v: usize) -> usize
+        requires { v < self.now.n }
+        ensures is { result ≡ (tables self.now).head v }
+        ensures small { result < 2 ^ 63 }
+    {
+        scratch_tables::word(self.words, Column::Head, v)
+    }
 
-// the preorder of a colour
-fn build_preorder(n: usize, scratch: &mut [i64], colour: usize, root: usize)
-    requires { PassPre n (length scratch.old) (tables_of scratch.old) × WalksIn n colour (tables_of scratch.old) × (colour < 2) × (root < n) }
-    ensures { tables_of scratch.new ≡ preorder_built n colour root (tables_of scratch.old) }
-{
-    compute_sizes(n, scratch, colour);
-    compute_positions(n, scratch, colour, root);
-    store_ranges(n, scratch, colour);
-    store_vertices(n, scratch, colour);
+    fn set_range_end(&mut self, v: usize, end: usize)
+        requires { (v < self.old.n) × (end < 2 ^ 63) }
+        ensures { Becomes self.old self.new (set_head v end (tables self.old)) }
+    {
+        set_word(self.words, Column::Head, v, end);
+    }
+
+    // Each vertex for itself. Each pass is a `for` of its own: a call that passed the step as a closure would be as long.
+    #[tactic(auto, using(crate::specs::LoopInvariants::up_next), unfolding(crate::specs::Model::upward, crate::specs::Model::init_size))]
+    fn init_sizes(&mut self)
+        ensures { Becomes self.old self.new (upward init_size self.old.n (tables self.old)) }
+    {
+        for v in 0..self.n {
+            self.set_subtree_size(v, 1);
+        }
+    }
+
+    // the k-th vertex that left, for its parent too
+    #[tactic(auto, using(crate::specs::LoopInvariants::steps), unfolding(crate::specs::Model::add_size))]
+    fn add_size(&mut self, colour: usize, k: usize)
+        requires { k < self.old.n - 2 }
+        ensures { Becomes self.old self.new (add_size colour k (tables self.old)) }
+    {
+        let w = self.removed(k);
+        let u = parent(w, colour);
+        let a = self.subtree_size(u);
+        let b = self.subtree_size(field::<0>(w));
+        self.set_subtree_size(u, (a + b) % 65536);
+    }
+
+    #[tactic(auto, using(crate::specs::LoopInvariants::up_next), unfolding(crate::specs::Model::upward))]
+    fn accumulate_sizes(&mut self, colour: usize)
+        ensures { Becomes self.old self.new (upward (add_size colour) (self.old.n - 2) (tables self.old)) }
+    {
+        for k in 0..self.n - 2 {
+            self.add_size(colour, k);
+        }
+    }
+
+    // the k-th vertex that left takes its place from the end of what its parent has left
+    #[tactic(auto, using(crate::specs::LoopInvariants::steps), unfolding(crate::specs::Model::allocate_range))]
+    fn allocate_range(&mut self, colour: usize, k: usize)
+        requires { k < self.old.n - 2 }
+        ensures { Becomes self.old self.new (allocate_range colour k (tables self.old)) }
+    {
+        let w = self.removed(k);
+        let v = field::<0>(w);
+        let u = parent(w, colour);
+        let end = self.range_end(u);
+        let rest = end.saturating_sub(self.subtree_size(v));
+        self.set_range_end(v, end);
+        self.set_range_end(u, rest);
+    }
+
+    #[tactic(auto, using(crate::specs::LoopInvariants::down_next, crate::specs::LoopInvariants::down_ends))]
+    fn allocate_ranges(&mut self, colour: usize)
+        ensures { Becomes self.old self.new (downward (allocate_range colour) (self.old.n - 2) (tables self.old)) }
+    {
+        for k in (0..self.n - 2).rev() {
+            self.allocate_range(colour, k);
+        }
+    }
+
+    // the word w with the place and the size of a subtree, if it leads across a side of the colour
+    #[tactic(auto, unfolding(crate::specs::Model::with_range))]
+    fn with_range(&self, colour: usize, w: usize) -> usize
+        requires { (w < 2 ^ 63) × (colour < 2) × (field3 w ≡ colour + 1 → parent colour w < self.now.n) }
+        ensures is { result ≡ with_range colour w (tables self.now) }
+        ensures small { result < 2 ^ 63 }
+    {
+        let f = field::<3>(w);
+        if f == colour + 1 {
+            let v = parent(w, colour);
+            let from = field::<0>(self.range_end(v).saturating_sub(1));
+            let size = field::<0>(self.subtree_size(v));
+            pack(field::<0>(w), from, size, f)
+        } else {
+            w
+        }
+    }
+
+    #[tactic(auto, using(crate::specs::LoopInvariants::store_range_is))]
+    fn store_range(&mut self, colour: usize, t: usize)
+        requires { (0 < t) × (t < 2 * self.old.n - 4) × (colour < 2) × (field3 ((tables self.old).op (3 * t)) ≡ colour + 1 →
+            parent colour ((tables self.old).op (3 * t)) < self.old.n) }
+        ensures { Becomes self.old self.new (store_range colour t (tables self.old)) }
+    {
+        let w = self.walk(t);
+        let r = self.with_range(colour, w);
+        set_op(self.words, 3 * t, r);
+    }
+
+    #[tactic(auto, using(crate::specs::LoopInvariants::up_next), unfolding(crate::specs::Model::upward, crate::specs::Model::store_range))]
+    fn store_ranges(&mut self, colour: usize)
+        requires { WalksIn self.old.n colour (tables self.old) × (colour < 2) }
+        ensures { Becomes self.old self.new (upward (store_range colour) (2 * self.old.n - 4) (tables self.old)) }
+    {
+        for t in 1..2 * self.n - 4 {
+            self.store_range(colour, t);
+        }
+    }
+
+    #[tactic(auto, using(crate::specs::LoopInvariants::count_kept), unfolding(crate::specs::Model::store_entry))]
+    fn store_entry(&mut self, colour: usize, i: usize, x: usize)
+        requires { (i < self.old.n) × (x < 65536) }
+        ensures { Becomes self.old self.new (store_entry colour i x (tables self.old)) }
+    {
+        if colour == 0 {
+            set_word(self.words, Column::Count, i, x);
+        } else {
+            set_word(self.words, Column::EvenMark, i, x);
+        }
+    }
+
+    // the k-th vertex that left, at its place
+    #[tactic(auto, using(crate::specs::LoopInvariants::steps), unfolding(crate::specs::Model::store_vertex))]
+    fn store_vertex(&mut self, colour: usize, k: usize)
+        requires { k < self.old.n - 2 }
+        ensures { Becomes self.old self.new (store_vertex self.old.n colour k (tables self.old)) }
+    {
+        let v = field::<0>(self.removed(k));
+        let i = clamp_index(self.n, self.range_end(v).saturating_sub(1));
+        self.store_entry(colour, i, v);
+    }
+
+    #[tactic(auto, using(crate::specs::LoopInvariants::up_next), unfolding(crate::specs::Model::upward))]
+    fn store_vertices(&mut self, colour: usize)
+        ensures { Becomes self.old self.new (upward (store_vertex self.old.n colour) (self.old.n - 2) (tables self.old)) }
+    {
+        for k in 0..self.n - 2 {
+            self.store_vertex(colour, k);
+        }
+    }
+
+    // the sizes of the subtrees of a colour
+    #[tactic(auto, unfolding(crate::specs::Model::sizes_computed))]
+    fn compute_sizes(&mut self, colour: usize)
+        ensures { Becomes self.old self.new (sizes_computed self.old.n colour (tables self.old)) }
+    {
+        self.init_sizes();
+        self.accumulate_sizes(colour);
+    }
+
+    // their ranges: the root has all of the preorder
+    #[tactic(auto, unfolding(crate::specs::Model::positions_computed, crate::specs::Model::init_root))]
+    fn compute_positions(&mut self, colour: usize, root: usize)
+        requires { root < self.old.n }
+        ensures { Becomes self.old self.new (positions_computed self.old.n colour root (tables self.old)) }
+    {
+        let size = self.subtree_size(root);
+        self.set_range_end(root, size);
+        self.allocate_ranges(colour);
+    }
+
+    // The preorder of a colour. Inlined: where each store was followed by reading the fields through `self` again, the passes took half as long again.
+    #[inline(always)]
+    #[tactic(auto, unfolding(crate::specs::Model::preorder_built))]
+    fn build_preorder(&mut self, colour: usize, root: usize)
+        requires { WalksIn self.old.n colour (tables self.old) × (colour < 2) × (root < self.old.n) }
+        ensures { Becomes self.old self.new (preorder_built self.old.n colour root (tables self.old)) }
+    {
+        self.compute_sizes(colour);
+        self.compute_positions(colour, root);
+        self.store_ranges(colour);
+        self.store_vertices(colour);
+    }
 }
 
 // The preorders of both colours. Where the words were packed from the tables T, and the paths in T lead to v0 and v1, their subtrees are ranges of these.
@@ -246,6 +272,7 @@ pub fn build_preorders(n: usize, scratch: &mut [i64])
 {
     let v0 = origin(scratch, 0);
     let v1 = origin(scratch, 2);
-    build_preorder(n, scratch, 0, v0);
-    build_preorder(n, scratch, 1, v1);
+    let mut passes = Passes { n, words: scratch };
+    passes.build_preorder(0, v0);
+    passes.build_preorder(1, v1);
 }

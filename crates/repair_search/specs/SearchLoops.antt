@@ -1,6 +1,7 @@
 -- How the code's searches meet the tests after a raise: the vertices that they read, their branches, their steps and their loops. Assumes nothing.
 use Rattle.std.specs.Prelude.{ℕ, zero, suc, ◌+◌, ◌-◌, ◌*◌, ◌≤◌, ◌<◌, ◌≡◌, refl, ◌≢◌, ◌⊎◌, Bool, true, false, List, [], length, ℤ}
-use Rattle.std.proofs.Common.{◌∙◌, inl, inr, arith}
+use Rattle.std.specs.Prelude.{Option, None, Some, MatchOption}
+use Rattle.std.proofs.Common.{◌∙◌, inl, inr, arith, unwrap_or}
 use mathlib.Core.List.Memᴰ
 use Rattle.std.proofs.Math.Decide.{ℕ_discrete}
 use borrow.Author.Tests.{eq-eqb, ne_eqb}
@@ -9,7 +10,7 @@ use Rattle.definitions.specs.Refusals.{row10}
 use Rattle.scratch_tables.specs.Tables.{Tables, tables_of, dart_in, past_darts}
 use Rattle.repair_area.specs.Areas.{CoordinatesIn, bad_of, raise_of}
 use Rattle.scratch_tables.specs.Fields.{field0, field1, field2}
-use Rattle.repair_model.specs.Search.{bad_at, raise_at, next_on, walk_on, walk_on-on, Found, Next}
+use Rattle.repair_model.specs.Search.{bad_at, raise_at, next_on, walk_on, walk_on-on, Found}
 
 -- ---- what is asked
 
@@ -28,21 +29,7 @@ pub record SearchPre (s bs : List ℤ) (to : ℕ) : Type 0 where
   pub corners : (t : ℕ) → 0 < t → t < to → CornersIn s bs t
   pub walks : (c t : ℕ) → c < 3 → t < to → next_on (tables_of s) c t < to
 
--- triangles between `full` and another inner one
-pub corners_between : (s bs : List ℤ) (to full t i : ℕ) → SearchPre s bs to → 0 < full → t < to → full ≤ i → i < t → CornersIn s bs i
-corners_between s bs to full t i P h k l m = P.corners i (omega arith) (omega arith)
-
 -- ---- the corners
-
-module _ (s bs : List ℤ) (t : ℕ) (C : CornersIn s bs t) (w : ℕ) (ew : w ≡ (tables_of s).op (3 * t + 1)) where
-  pub first-there : (p : ℕ) → p ≡ field0 w → CoordinatesIn bs p
-  first-there p e = rw (e, ew) C.first
-
-  pub second_there : (q : ℕ) → q ≡ field1 w → CoordinatesIn bs q
-  second_there q e = rw (e, ew) C.second
-
-  pub third_there : (r : ℕ) → r ≡ field2 w → CoordinatesIn bs r
-  third_there r e = rw (e, ew) C.third
 
 -- w holds the vertices p, q, r at the corners with the labels 0, 1, 2
 module _ (S : Tables) (bs : List ℤ) (t w p q r : ℕ) (ew : w ≡ S.op (3 * t + 1)) (ep : p ≡ field0 w) (eq : q ≡ field1 w) (er : r ≡ field2 w) where
@@ -56,35 +43,12 @@ module _ (S : Tables) (bs : List ℤ) (t w p q r : ℕ) (ew : w ≡ S.op (3 * t 
 
 -- ---- searches
 
--- none of the numbers from a to i - 1 passed
-pub record Sought (p : ℕ → Bool) (a b i : ℕ) : Type 0 where
-  pub least : a ≤ i
-  pub most : i ≤ b
-  pub before : (k : ℕ) → a ≤ k → k < i → p k ≡ false
-
-pub sought_none : (p : ℕ → Bool) (a b : ℕ) → a ≤ b → Sought p a b a
-sought_none p a b h = record { least = omega arith; most = h; before = λ k l m. absurd (omega arith) }
-
-module _ (p : ℕ → Bool) (a b i : ℕ) (S : Sought p a b i) where
-  pub sought_more : i < b → p i ≡ false → Sought p a b (i + 1)
-  sought_more h e =
-      record {
-        least = omega (arith, S.least);
-        most = omega arith;
-        before = λ k l m. elim (ℕ_discrete k i) [ yes q ↦ rw q e | no q ↦ S.before k l (omega arith) ];
-      }
-
-  pub found_here : i < b → p i ≡ true → Found p a b i
-  found_here h e = record { least = S.least; most = S.most; before = S.before; hit = λ l. e }
-
-  pub found_nowhere : b ≤ i → Found p a b b
-  found_nowhere h =
-      record {
-        least = omega (arith, S.least, S.most);
-        most = omega arith;
-        before = λ k l m. S.before k l (omega arith);
-        hit = λ l. absurd (omega arith);
-      }
+-- the first number that passes, if one does: what a search through the numbers from a to b - 1 gives
+pub found_by : (p : ℕ → Bool) (a b : ℕ) (r : Option ℕ) → a ≤ b → MatchOption r ((k : ℕ) → a ≤ k → k < b → p k ≡ false)
+    (λ i. (a ≤ i) × (i < b) × (p i ≡ true) × ((k : ℕ) → a ≤ k → k < i → p k ≡ false)) →
+    Found p a b (unwrap_or r b)
+found_by p a b None h m = record { least = h; most = omega arith; before = m; hit = λ l. absurd (omega arith) }
+found_by p a b (Some i) h m = record { least = m.0; most = omega (arith, m.1); before = m.3; hit = λ l. m.2 }
 
 -- ---- walks
 
@@ -111,12 +75,6 @@ pub record Lower (p : ℕ → Bool) (full i low r : ℕ) : Type 0 where
   pub least : full ≤ low → full ≤ r
   pub most : r ≤ low
   pub clear : full ≤ i → i < r → p i ≡ false
-
-pub lower_same : (p : ℕ → Bool) (full i low : ℕ) → (full ≤ i → i < low → p i ≡ false) → Lower p full i low low
-lower_same p full i low h = record { least = λ l. l; most = omega arith; clear = h }
-
-pub lower_new : (p : ℕ → Bool) (full i low : ℕ) → full ≤ i → i < low → Lower p full i low i
-lower_new p full i low h l = record { least = λ _. h; most = omega arith; clear = λ _ m. absurd (omega arith) }
 
 -- On the three walks from t on, of k at most, none from `full` on and below r passes.
 pub record Lowest (S : Tables) (p : ℕ → Bool) (k full t r : ℕ) : Type 0 where
@@ -224,12 +182,3 @@ module _ (S : Tables) (p : ℕ → Bool) (steps full t k a b d r : ℕ) (W : Wal
         walk_1 = walk-next S p 1 steps full t k b r W.walk_1 r2 b' h (omega (arith, m0, m1, m2)) (λ l n. B.clear l (omega (arith, m2))) eb fb;
         walk_2 = walk-next S p 2 steps full t k d r W.walk_2 r2 d' h (omega (arith, m0, m1, m2)) D.clear ed fd;
       }
-
--- none lies between `full` and t
-pub lowest-none : (S : Tables) (p : ℕ → Bool) (k full t : ℕ) → full ≡ t → Lowest S p k full t t
-lowest-none S p k full t e = record { least = λ l. l; most = omega arith; clear = λ c h g m l n. absurd (omega arith) }
-
--- on the walks, and then by number
-pub next_of : (S : Tables) (bs : List ℤ) (full t to low r : ℕ) → full ≤ t → Lowest S (bad_at S bs) to full t low → Found (bad_at S bs) low to r →
-    Next S bs full t to r
-next_of S bs full t to low r h L F = record { low = low; low_least = L.least h; low_most = L.most; clear = L.clear; found = F }

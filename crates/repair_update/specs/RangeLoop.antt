@@ -75,18 +75,10 @@ range_none s bs₀ a end e x R =
     }
 
 module _ {s bs₀ : List ℤ} {a end e : ℕ} {x : ℤ} {bs : List ℤ} {p : ℕ} (G : RangeDone s bs₀ a end e x bs p) where
-  pub range_all : end ≤ p → More (along (word_at s) a (end - a) e) x bs₀ bs × ((k : ℕ) → Small k bs₀ → Small (k + (end - a)) bs)
-  range_all h =
-      let q : end ≡ p = omega (arith, G.inside) in
-      rw q (G.more, G.small)
-
   -- the next entry is a vertex v, and has room
   module _ (h : p < end) (v : ℕ) (ev : v ≡ word_at s p) where
     pub range_room : 3 * v + e < length bs
     range_room = rw ev (omega (arith, G.asked.vertices p G.begun h, G.more.long))
-
-    pub range_fits : 3 * v + e < 65536
-    range_fits = omega (arith, range_room, G.more.long, G.asked.short)
 
     pub range_small : (j : ℕ) → nat_abs (get_or bs j (pos 0)) + nat_abs x < 2 ^ 63
     range_small j = omega (arith, (G.small G.asked.added G.asked.small).small j, G.asked.light, G.asked.few, G.begun)

@@ -9,7 +9,7 @@ use Rattle.definitions.specs.Backward.{coordinate}
 use Rattle.definitions.specs.Repair.{limit}
 use Rattle.definitions.specs.Refusals.{row10}
 use Rattle.theory_realizer.specs.Units.{bit}
-use Rattle.scratch_tables.specs.Tables.{Tables, word_at, tables_of, dart_in, count_in, extra_in, count_start, mark_start}
+use Rattle.scratch_tables.specs.Tables.{Tables, word_at, tables_of, count_in, extra_in, count_start, mark_start}
 use Rattle.scratch_tables.specs.Fields.{field0, field1, field2, field3}
 use Rattle.labels_tables.specs.Peeling.{peeling_of, peeling}
 use Rattle.maps_limits.specs.Limits.{range}
@@ -288,26 +288,7 @@ module _ {s bs₀ : List ℤ} {steps t : ℕ} {x : ℤ} {bs : List ℤ} {k at : 
   pub walking_over : k ≡ 0 → Walked s steps t x bs₀ bs
   walking_over e = walking_ends (λ c i. rw e (amount-over (tables_of s) at c i))
 
-  pub walking_there : dart_in (length s) (3 * at)
-  walking_there = omega (arith, G.inside, G.asked.all, G.asked.room)
-
   module _ (d : at ≢ 0) (h : 0 < k) where
-    pub walking_subtree : SubtreePre s bs ((tables_of s).op (3 * at)) x
-    walking_subtree =
-        let W = G.asked in
-        record {
-          n = W.n;
-          most = W.most;
-          room = W.room;
-          long = G.more.long ∙ W.long;
-          light = W.light;
-          left = W.words.left at (omega arith) (omega (arith, G.inside, W.all));
-          right = W.words.right at (omega arith) (omega (arith, G.inside, W.all));
-          added = 4096 * (steps - k);
-          small = G.small;
-          few = omega (arith, W.all, W.most);
-        }
-
     pub walking_next : (bs' : List ℤ) (at' : ℕ) → at' ≡ field0 ((tables_of s).op (3 * at)) → SubtreeAdded s ((tables_of s).op (3 * at)) x bs bs' →
         Walking s bs₀ steps t x bs' (k - 1) at'
     walking_next bs' at' to F =

@@ -1,69 +1,27 @@
 -- How the code meets the words that a raise reads: their parts, and the two loops that pack them. Assumes nothing.
-use Prim.Native.Nat.{ℕ, ◌+◌, ◌-◌, ◌*◌, ◌/◌, ◌≤◌, ◌<◌, ◌^◌}
-use Rattle.std.specs.Prelude.{◌≡◌, refl, ◌≢◌, true, false, List, eqb, length, ℤ}
-use Rattle.std.proofs.Common.{sym, ◌∙◌, arith, eq-eqb, ne_eqb}
+use Prim.Native.Nat.{ℕ, ◌+◌, ◌-◌, ◌*◌, ◌≤◌, ◌<◌, ◌^◌}
+use Rattle.std.specs.Prelude.{◌≡◌, refl, Bool, true, false, List, length, ℤ}
+use Rattle.std.proofs.Common.{sym, ◌∙◌, arith}
+use Rattle.std.specs.Int.{from_bool}
 use Rattle.std.proofs.Math.Path.{ap}
 use Rattle.std.proofs.Math.Decide.{ℕ_discrete}
 use Rattle.definitions.specs.Mesh.{tri, next, prev}
 use Rattle.theory_sphere.specs.Darts.{next-below}
+use Rattle.theory_realizer.specs.Units.{bit}
 use Rattle.scratch_tables.specs.Tables.{Tables, tables_of, dart_in, vertex_in, set_op, set_mark, upd-at, upd_other}
-use Rattle.scratch_tables.specs.Fields.{pack, field1}
+use Rattle.scratch_tables.specs.Fields.{field1}
 use Rattle.labels_tables.specs.Peeling.{Peeling, peeling_of, peeling, set_left, set_right}
-use Rattle.labels_tables.specs.LabelledTables.{opposite_in, apex_dart}
+use Rattle.labels_tables.specs.LabelledTables.{apex_dart}
 use Rattle.repair_model.specs.RemovalOrder.{removed_at}
 use Rattle.repair_model.specs.PackedWords.{walk_dart, walk_from, walk_to, with_rim, end_flags, walk_word, corner_word, removed_word, other_walks_word, Packed}
 use Rattle.repair_model.specs.PackedWords.{WalksPacked, TrianglesIn, InRange, apex-tri, ends_low}
 
 -- ---- the words
 
-module _ (T : Peeling) (o a b e f : ℕ) (ee : e ≡ T.left a) (ef : f ≡ T.right b) where
-  yes-left : e ≡ o → eqb (T.left a) o ≡ true
-  yes-left h = eq-eqb (T.left a) o (sym ee ∙ h)
-
-  no_left : e ≢ o → eqb (T.left a) o ≡ false
-  no_left h = ne_eqb (T.left a) o (λ q. h (ee ∙ q))
-
-  yes_right : f ≡ o → eqb (T.right b) o ≡ true
-  yes_right h = eq-eqb (T.right b) o (sym ef ∙ h)
-
-  no_right : f ≢ o → eqb (T.right b) o ≡ false
-  no_right h = ne_eqb (T.right b) o (λ q. h (ef ∙ q))
-
-  pub end_flags-3 : e ≡ o → f ≡ o → 3 ≡ end_flags T o a b
-  unfolding end_flags
-  end_flags-3 h k = rw (yes-left h, yes_right k)
-
-  pub end_flags-1 : e ≡ o → f ≢ o → 1 ≡ end_flags T o a b
-  unfolding end_flags
-  end_flags-1 h k = rw (yes-left h, no_right k)
-
-  pub end_flags-2 : e ≢ o → f ≡ o → 2 ≡ end_flags T o a b
-  unfolding end_flags
-  end_flags-2 h k = rw (no_left h, yes_right k)
-
-  pub end_flags-0 : e ≢ o → f ≢ o → 0 ≡ end_flags T o a b
-  unfolding end_flags
-  end_flags-0 h k = rw (no_left h, no_right k)
-
-module _ (T : Peeling) (t g : ℕ) (eg : g ≡ apex_dart T t) where
-  pub walk_word_is : (q o a b f r : ℕ) → q ≡ prev g → o ≡ T.turn q → a ≡ T.origin q → b ≡ T.origin (next g) → f ≡ end_flags T o a b →
-      r ≡ pack (o / 3) a b f → r ≡ walk_word T t
-  unfolding walk_word walk_dart tri
-  walk_word_is q o a b f r eq eo ea eb ef er = rw (er, ef, ea, eb, eo, eq, eg)
-
-  pub corner_word_is : (p b q r w : ℕ) → p ≡ T.origin (next g) → b ≡ prev g → q ≡ T.origin b → r ≡ T.origin g → w ≡ pack p q r 0 →
-      w ≡ corner_word T t
-  unfolding corner_word
-  corner_word_is p b q r w ep eb eq er ew = rw (ew, ep, eq, eb, er, eg)
-
-  pub other_walks_word_is : (a b w : ℕ) → a ≡ T.turn g → b ≡ opposite_in T g → w ≡ pack (a / 3) (b / 3) 0 0 → w ≡ other_walks_word T t
-  unfolding other_walks_word opposite_in tri
-  other_walks_word_is a b w ea eb ew = rw (ew, ea, eb, eg)
-
-pub removed_word_is : (T : Peeling) (k v e a f b w : ℕ) → v ≡ T.order k → e ≡ T.left v → a ≡ T.origin (next e) → f ≡ T.right v → b ≡ T.origin f →
-    w ≡ pack v a b 0 → w ≡ removed_word T k
-unfolding removed_word
-removed_word_is T k v e a f b w ev ee ea ef eb ew = rw (ew, ea, ee, eb, ef, ev)
+-- the number of a test is the same in code and definitions
+pub bit_is : (x : Bool) → from_bool x ≡ bit x
+bit_is true = refl
+bit_is false = refl
 
 -- the words of triangle t in their places
 unfoldable pub set_words : ℕ → Tables → Tables
@@ -71,17 +29,6 @@ unfolding walk_word corner_word other_walks_word set_op peeling_of
 set_words t S =
     let T = peeling_of S in
     set_op (3 * t + 2) (other_walks_word T t) (set_op (3 * t + 1) (corner_word T t) (set_op (3 * t) (walk_word T t) S))
-
-pub words_set : (t : ℕ) (S S₁ S₂ S₃ : Tables) (w c l : ℕ) → w ≡ walk_word (peeling_of S) t → c ≡ corner_word (peeling_of S) t →
-    l ≡ other_walks_word (peeling_of S) t →
-    S₁ ≡ set_op (3 * t) w S → S₂ ≡ set_op (3 * t + 1) c S₁ → S₃ ≡ set_op (3 * t + 2) l S₂ → S₃ ≡ set_words t S
-unfolding set_words
-words_set t S S₁ S₂ S₃ w c l ew ec el e₁ e₂ e₃ = rw (e₃, e₂, e₁, ew, ec, el)
-
--- the outer triangle's dart in its places
-pub rim-set : (T T₁ T₂ : Peeling) (v0 v1 : ℕ) → v0 ≡ T.origin 0 → v1 ≡ T.origin 2 → T₁ ≡ set_right v0 2 T → T₂ ≡ set_left v1 2 T₁ → T₂ ≡ with_rim T
-unfolding with_rim
-rim-set T T₁ T₂ v0 v1 e0 e1 e₁ e₂ = rw (e₂, e₁, e0, e1)
 
 -- ---- what is asked of scratch
 
@@ -115,7 +62,7 @@ pub record RemovedPre (words : ℕ) (T : Peeling) (k : ℕ) : Type 0 where
   pub left : dart_in words (next (T.left (removed_at T k)))
   pub right : dart_in words (T.right (removed_at T k))
 
--- what is asked of a triangle says that its darts are there, and the ends of the one by which its walk goes on
+-- what is asked of a triangle says that its darts are there
 module _ (words : ℕ) (T : Peeling) (t : ℕ) (P : TrianglePre words T t) (g : ℕ) (eg : g ≡ apex_dart T t) where
   pub apex_few : g < 2 ^ 63
   unfolding apex_dart
@@ -133,18 +80,8 @@ module _ (words : ℕ) (T : Peeling) (t : ℕ) (P : TrianglePre words T t) (g : 
   unfolding apex_dart prev
   prev-at q e = omega (arith, P.room, P.apex)
 
-  pub from_at : (q a : ℕ) → q ≡ prev g → a ≡ T.origin q → vertex_in words a
-  from_at q a eq ea = rw (ea, eq, eg) P.from
-
-  pub to_at : (b : ℕ) → b ≡ T.origin (next g) → vertex_in words b
-  to_at b eb = rw (eb, eg) P.to
-
-module _ (words : ℕ) (T : Peeling) (k : ℕ) (P : RemovedPre words T k) (v : ℕ) (ev : v ≡ T.order k) where
-  pub left_at : (d : ℕ) → d ≡ T.left v → dart_in words (next d)
-  left_at d e = rw (e, ev) P.left
-
-  pub right_at : (d : ℕ) → d ≡ T.right v → dart_in words d
-  right_at d e = rw (e, ev) P.right
+-- for the code's calls on them
+pub ruleset darts_in_room = (apex_few, apex-at, next-at, prev-at)
 
 -- ---- the vertices that left
 
@@ -154,9 +91,6 @@ pub record RemovedPacked (n : ℕ) (S₀ S : Tables) (m : ℕ) : Type 0 where
   pub rest : (k : ℕ) → m ≤ k → S.mark (2 * k + 1) ≡ S₀.mark (2 * k + 1)
   pub op : S.op ≡ S₀.op
   pub head : S.head ≡ S₀.head
-
-pub removed-none : (n : ℕ) (S : Tables) → RemovedPacked n S S 0
-removed-none n S = record { removed = λ k h. absurd (omega arith); rest = λ k h. refl; op = refl; head = refl }
 
 module _ (n : ℕ) (S₀ S : Tables) (k : ℕ) (L : RemovedPacked n S₀ S k) where
   same-removed : removed_word (peeling_of S) k ≡ removed_word (peeling_of S₀) k
@@ -239,18 +173,6 @@ pub record TrianglesPacked (n : ℕ) (S₀ S : Tables) (m : ℕ) : Type 0 where
   pub head : S.head ≡ S₀.head
   pub mark : S.mark ≡ S₀.mark
 
-pub triangles-none : (n : ℕ) (S : Tables) → TrianglesPacked n S S 1
-triangles-none n S =
-    record {
-      walks = λ t h l. absurd (omega arith);
-      corners = λ t h l. absurd (omega arith);
-      other_walks = λ t h l. absurd (omega arith);
-      rim = λ d h. refl;
-      rest = λ d h. refl;
-      head = refl;
-      mark = refl;
-    }
-
 module _ (n : ℕ) (S₀ S : Tables) (t : ℕ) (W : TrianglesPacked n S₀ S t) (I : TrianglesIn n (peeling_of S₀)) (h : 0 < t) (l : t < 2 * n - 4) where
   -- what is asked of the next
   pub triangle_pre : (words : ℕ) → n ≤ 4096 → 10 * n ≤ words → TrianglePre words (peeling_of S) t
@@ -310,13 +232,6 @@ module _ (n : ℕ) (S₀ S : Tables) (t : ℕ) (W : TrianglesPacked n S₀ S t) 
       })
 
 -- ---- all of them: the rim, then the vertices that left, then the triangles
-
--- v0 and v1 are there
-pub rim-there : (n : ℕ) (s : List ℤ) → PackPre n s →
-    dart_in (length s) 2 × vertex_in (length s) ((peeling s).origin 0) × vertex_in (length s) ((peeling s).origin 2)
-rim-there n s P =
-    let o = P.inside.triangles.origins in
-    omega (arith, P.some, P.room, o 0 (omega (arith, P.some)), o 2 (omega (arith, P.some)))
 
 -- with the outer triangle's dart at v0 and v1 too
 in_range-with_rim : (n : ℕ) (T : Peeling) → 3 ≤ n → InRange n T → InRange n (with_rim T)

@@ -1,5 +1,5 @@
 -- Four numbers in a word of scratch, 16 bits for each of the first three; and tables of one such number of each word. Assumes nothing.
-use Rattle.std.specs.Prelude.{ℕ, ◌+◌, ◌*◌, ◌/◌, ◌%◌, ◌<◌, ◌≡◌}
+use Rattle.std.specs.Prelude.{ℕ, zero, suc, ◌+◌, ◌*◌, ◌/◌, ◌%◌, ◌^◌, ◌<◌, ◌≡◌, cond, eqb}
 use Rattle.std.proofs.Math.Path.{fun_ext}
 use native.Mathlib.Omega.{arith}
 use Rattle.std.proofs.Math.Decide.{ℕ_discrete}
@@ -19,6 +19,19 @@ field2 w = w / 4294967296 % 65536
 
 unfoldable pub field3 : ℕ → ℕ
 field3 w = w / 281474976710656
+
+-- the number at place 0, 1, 2 or 3
+abbrev pub field : ℕ → ℕ → ℕ
+field k w = cond (eqb k 0) (field0 w) (cond (eqb k 1) (field1 w) (cond (eqb k 2) (field2 w) (field3 w)))
+
+-- as the code reads it from a word of 64 bits
+pub field_is : (k w : ℕ) → k < 4 → w < 2 ^ 64 → w / 2 ^ (16 * k) % 65536 ≡ field k w
+unfolding field0 field1 field2 field3
+field_is zero w h f = omega arith
+field_is (suc zero) w h f = omega arith
+field_is (suc (suc zero)) w h f = omega arith
+field_is (suc (suc (suc zero))) w h f = omega arith
+field_is (suc (suc (suc (suc k)))) w h f = absurd (omega arith)
 
 module _ (a b c d w : ℕ) (e : w ≡ pack a b c d) (ha : a < 65536) (hb : b < 65536) (hc : c < 65536) where
   pub field0_is : field0 w ≡ a

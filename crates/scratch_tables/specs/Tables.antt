@@ -9,6 +9,8 @@ use Rattle.std.proofs.Math.ListN.{length, length-set, get_or-map}
 use Rattle.std.proofs.lemmas.List.{length-map}
 use Rattle.std.proofs.Math.Decide.{ℕ_discrete, dec_le}
 use Rattle.std.specs.Int.{w64}
+use Rattle.scratch_tables.specs.declared.Column.{Column}
+use Rattle.scratch_tables.specs.declared.Column.TheVariants.{Head, Count, EvenMark, OddMark}
 
 -- ---- functions changed at one place
 
@@ -40,6 +42,13 @@ word_at s i = to_natural (get_or s i (pos 0))
 -- a tenth of scratch
 abbrev pub column : ℕ → ℕ
 column words = words / 10
+
+-- where a column of the vertices begins
+abbrev pub column_start : Column → ℕ → ℕ
+column_start Head words = 6 * column words
+column_start Count words = 7 * column words
+column_start EvenMark words = 8 * column words
+column_start OddMark words = 9 * column words
 
 -- where the words past those of the darts begin; those of `count`; and those of the even marks
 abbrev pub past_darts : ℕ → ℕ
@@ -100,6 +109,19 @@ set_count v x t = record { op = t.op; head = t.head; count = upd v x t.count; ma
 
 unfoldable pub set_mark : ℕ → ℕ → Tables → Tables
 set_mark i x t = record { op = t.op; head = t.head; count = t.count; mark = upd i x t.mark }
+
+-- an entry of a column of the vertices, and a store to it
+abbrev pub entry_of : Column → ℕ → Tables → ℕ
+entry_of Head v t = t.head v
+entry_of Count v t = t.count v
+entry_of EvenMark v t = t.mark (2 * v)
+entry_of OddMark v t = t.mark (2 * v + 1)
+
+abbrev pub set_entry : Column → ℕ → ℕ → Tables → Tables
+set_entry Head v x t = set_head v x t
+set_entry Count v x t = set_count v x t
+set_entry EvenMark v x t = set_mark (2 * v) x t
+set_entry OddMark v x t = set_mark (2 * v + 1) x t
 
 -- ---- a store to one of them
 
@@ -326,6 +348,20 @@ module _ (s : List ℤ) (v : ℕ) (h : vertex_in (length s) v) where
 
   pub tables_of_extra : (x : ℕ) → x < 2 ^ 63 → tables_of (set s (8 * column (length s) + v) (pos x)) ≡ set_mark (2 * v) x (tables_of s)
   tables_of_extra x few = ap (λ (i : ℕ). tables_of (set s i (pos x))) (sym even_at) ∙ tables_of-mark s (2 * v) x few (omega arith)
+
+-- an entry of a column as the code reads and stores it
+pub entry_in_column : (s : List ℤ) (k : Column) (v : ℕ) → vertex_in (length s) v → entry_of k v (tables_of s) ≡ word_at s (column_start k (length s) + v)
+entry_in_column s Head v h = head_in s v h
+entry_in_column s Count v h = count_in s v h
+entry_in_column s EvenMark v h = extra_in s v h
+entry_in_column s OddMark v h = order_in s v h
+
+pub tables_of-entry : (s : List ℤ) (k : Column) (v x : ℕ) → x < 2 ^ 63 → vertex_in (length s) v →
+    tables_of (set s (column_start k (length s) + v) (pos x)) ≡ set_entry k v x (tables_of s)
+tables_of-entry s Head v x few h = tables_of_head s v x few h
+tables_of-entry s Count v x few h = tables_of-count s v x few h
+tables_of-entry s EvenMark v x few h = tables_of_extra s v h x few
+tables_of-entry s OddMark v x few h = tables_of-order s v h x few
 
 -- ---- the loop that clears: the words from k on and before i are zero
 

@@ -1,11 +1,36 @@
 // The lent scratch as four tables, read and written one word at a time, and up to four numbers in a word. Who reads a word asks that it is there.
+// An index stays an argument whose range is asked: a type for it would have to hold the slice as well.
 #![tactic(auto)]
 
 ghost use Rattle.std.specs.Prelude.{◌≡◌, map, ◌+◌, ◌*◌, ◌<◌, ◌≤◌, ◌^◌, length, set, pos};
 ghost use Rattle.definitions.specs.Mesh.{next, prev};
-ghost use Rattle.scratch_tables.specs.Tables.{past_darts, count_start, mark_start, to_natural, word_at, dart_in, vertex_in, mark_in, tables_of, flags_of, queue_of};
-ghost use Rattle.scratch_tables.specs.Fields.{pack, field0, field1, field2, field3};
+ghost use Rattle.scratch_tables.specs.Tables.{column_start, entry_of, set_entry, to_natural, word_at};
+ghost use Rattle.scratch_tables.specs.Tables.{dart_in, vertex_in, mark_in, tables_of, flags_of, queue_of};
+ghost use Rattle.scratch_tables.specs.Fields.{pack, field};
 ghost use Rattle.scratch_tables.specs.Tables.{Flagged, Queued, set_op, set_head, set_count, set_mark, Cleared, VerticesCleared};
+
+// The columns past those of the darts, each with a word for every vertex. Document 01 says nothing of them: what they hold is the matter of each stage.
+#[derive(Clone, Copy)]
+pub enum Column {
+    Head,
+    Count,
+    EvenMark,
+    OddMark,
+}
+
+// where a column begins
+pub fn column_start(s: &[i64], column: Column) -> usize
+    ensures is { result ≡ column_start column (length s.now) }
+    ensures small { result ≤ length s.now }
+{
+    let tenth = s.len() / 10;
+    match column {
+        Column::Head => 6 * tenth,
+        Column::Count => 7 * tenth,
+        Column::EvenMark => 8 * tenth,
+        Column::OddMark => 9 * tenth,
+    }
+}
 
 // the next and the previous dart of the same triangle
 pub fn next_dart(d: usize) -> usize
@@ -43,32 +68,13 @@ fn store(s: &mut [i64], i: usize, x: usize)
     s[i] = x as i64;
 }
 
-// the four numbers of a word
-pub fn field0(w: usize) -> usize
-    ensures is { result ≡ field0 w }
+// the number at a place of a word, the first at 0
+pub fn field<const PLACE: usize>(w: usize) -> usize
+    requires { PLACE < 4 }
+    ensures is { result ≡ field PLACE w }
     ensures small { result < 65536 }
 {
-    w % 65536
-}
-
-pub fn field1(w: usize) -> usize
-    ensures is { result ≡ field1 w }
-    ensures small { result < 65536 }
-{
-    w / 65536 % 65536
-}
-
-pub fn field2(w: usize) -> usize
-    ensures is { result ≡ field2 w }
-    ensures small { result < 65536 }
-{
-    w / 4_294_967_296 % 65536
-}
-
-pub fn field3(w: usize) -> usize
-    ensures { result ≡ field3 w }
-{
-    w / 281_474_976_710_656
+    (w >> (16 * PLACE)) % 65536
 }
 
 // the word of four numbers
@@ -89,91 +95,55 @@ pub fn dart_word(s: &[i64], d: usize) -> usize
     load(s, d)
 }
 
-pub fn vertex_word(s: &[i64], v: usize) -> usize
+// word v of a column of the vertices
+pub fn word(s: &[i64], column: Column, v: usize) -> usize
     requires { vertex_in (length s.now) v }
-    ensures is { result ≡ (tables_of s.now).head v }
+    ensures is { result ≡ entry_of column v (tables_of s.now) }
     ensures small { result < 2 ^ 63 }
 {
-    let c = s.len() / 10;
-    load(s, 6 * c + v)
+    load(s, column_start(s, column) + v)
 }
 
-pub fn mark_word(s: &[i64], v: usize) -> usize
-    requires { vertex_in (length s.now) v }
-    ensures is { result ≡ (tables_of s.now).count v }
-    ensures small { result < 2 ^ 63 }
+pub fn set_word(s: &mut [i64], column: Column, v: usize, x: usize)
+    requires { (vertex_in (length s.old) v) × (x < 2 ^ 63) }
+    ensures { tables_of s.new ≡ set_entry column v x (tables_of s.old) }
 {
-    let c = s.len() / 10;
-    load(s, 7 * c + v)
+    let start = column_start(s, column);
+    store(s, start + v, x);
 }
 
-pub fn order_word(s: &[i64], k: usize) -> usize
-    requires { vertex_in (length s.now) k }
-    ensures is { result ≡ (tables_of s.now).mark (2 * k + 1) }
-    ensures small { result < 2 ^ 63 }
-{
-    let c = s.len() / 10;
-    load(s, 9 * c + k)
-}
-
-pub fn extra_word(s: &[i64], v: usize) -> usize
-    requires { vertex_in (length s.now) v }
-    ensures is { result ≡ (tables_of s.now).mark (2 * v) }
-    ensures small { result < 2 ^ 63 }
-{
-    let c = s.len() / 10;
-    load(s, 8 * c + v)
-}
-
+// The flags of row 8, in both columns of marks; and further down its queue. They promise different things, so each has functions of its own.
 pub fn flag(s: &[i64], t: usize) -> usize
     requires { mark_in (length s.now) t }
     ensures is { result ≡ flags_of s.now t }
     ensures small { result < 2 ^ 63 }
 {
-    let c = s.len() / 10;
-    load(s, 8 * c + t)
+    load(s, column_start(s, Column::EvenMark) + t)
 }
 
 pub fn set_flag(s: &mut [i64], t: usize, x: usize)
     requires { mark_in (length s.old) t × (x < 2 ^ 63) }
     ensures { Flagged s.old s.new t x }
 {
-    let c = s.len() / 10;
-    store(s, 8 * c + t, x);
+    let start = column_start(s, Column::EvenMark);
+    store(s, start + t, x);
 }
 
-// the queue of row 8
+// the queue of row 8, in the two columns before
 pub fn queue_word(s: &[i64], j: usize) -> usize
     requires { mark_in (length s.now) j }
     ensures is { result ≡ queue_of s.now j }
     ensures small { result < 2 ^ 63 }
 {
-    let c = s.len() / 10;
-    load(s, 6 * c + j)
+    load(s, column_start(s, Column::Head) + j)
 }
 
 pub fn set_queue(s: &mut [i64], j: usize, x: usize)
     requires { mark_in (length s.old) j × (x < 2 ^ 63) }
     ensures { Queued s.old s.new j x }
 {
-    let c = s.len() / 10;
-    store(s, 6 * c + j, x);
-}
-
-pub fn set_order(s: &mut [i64], k: usize, x: usize)
-    requires { vertex_in (length s.old) k × (x < 2 ^ 63) }
-    ensures { tables_of s.new ≡ set_mark (2 * k + 1) x (tables_of s.old) }
-{
-    let c = s.len() / 10;
-    store(s, 9 * c + k, x);
-}
-
-pub fn set_extra(s: &mut [i64], v: usize, x: usize)
-    requires { vertex_in (length s.old) v × (x < 2 ^ 63) }
-    ensures { tables_of s.new ≡ set_mark (2 * v) x (tables_of s.old) }
-{
-    let c = s.len() / 10;
-    store(s, 8 * c + v, x);
+    let start = column_start(s, Column::Head);
+    store(s, start + j, x);
 }
 
 pub fn set_op(s: &mut [i64], d: usize, x: usize)
@@ -183,54 +153,12 @@ pub fn set_op(s: &mut [i64], d: usize, x: usize)
     store(s, d, x);
 }
 
-pub fn set_head(s: &mut [i64], v: usize, x: usize)
-    requires { (vertex_in (length s.old) v) × (x < 2 ^ 63) }
-    ensures { tables_of s.new ≡ set_head v x (tables_of s.old) }
-{
-    let c = s.len() / 10;
-    store(s, 6 * c + v, x);
-}
-
-pub fn set_count(s: &mut [i64], v: usize, x: usize)
-    requires { (vertex_in (length s.old) v) × (x < 2 ^ 63) }
-    ensures { tables_of s.new ≡ set_count v x (tables_of s.old) }
-{
-    let c = s.len() / 10;
-    store(s, 7 * c + v, x);
-}
-
-// where the words past those of the darts begin; those of `count`; and those of the even marks
-pub fn past_darts(s: &[i64]) -> usize
-    ensures is { result ≡ past_darts (length s.now) }
-    ensures small { result ≤ length s.now }
-{
-    6 * (s.len() / 10)
-}
-
-pub fn count_start(s: &[i64]) -> usize
-    ensures is { result ≡ count_start (length s.now) }
-    ensures small { result ≤ length s.now }
-{
-    7 * (s.len() / 10)
-}
-
-pub fn mark_start(s: &[i64]) -> usize
-    ensures is { result ≡ mark_start (length s.now) }
-    ensures small { result ≤ length s.now }
-{
-    8 * (s.len() / 10)
-}
-
 // zeros in every word from k on and before e
 fn clear_between(s: &mut [i64], k: usize, e: usize)
     requires { (k ≤ e) × (e ≤ length s.old) }
     ensures { Cleared s.old s.new k e }
 {
-    let mut i = k;
-    while i < e {
-        s[i] = 0;
-        i += 1;
-    }
+    s[k..e].fill(0);
 }
 
 // zeros in every word

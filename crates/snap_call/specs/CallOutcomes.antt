@@ -1,7 +1,7 @@
 -- The snapping call, row by row: what it gives where a row refuses, and where none does. Assumes nothing.
-use Rattle.std.specs.Prelude.{ℕ, ◌*◌, ◌≡◌, refl, Bool, true, false, not, List, [], ◌∷◌, ℤ, Float, length}
+use Rattle.std.specs.Prelude.{ℕ, ◌*◌, ◌<◌, Err, ◌≡◌, refl, true, false, not, List, [], ◌∷◌, ℤ, Float, length}
 use Rattle.std.proofs.Math.Path.{sym}
-use Rattle.std.proofs.Common.{ap, ◌∙◌}
+use Rattle.std.proofs.Common.{ap, ◌∙◌, arith}
 use Rattle.std.proofs.Math.Logic.{inl, inr}
 use Rattle.std.proofs.Math.Option.{none}
 use Rattle.definitions.specs.Answers.{Refusal, numbered, Answer, done, refused}
@@ -10,18 +10,19 @@ use Rattle.definitions.specs.DrawnPoints.{default_scale, effective_scale, scale_
 use Rattle.definitions.specs.Refusals.{row1, row2, most_vertices, Slice, slice, Snapped, snap_call}
 use Rattle.laws.specs.Lists.{tested}
 use Rattle.theory_sphere.specs.FirstRefusal.{row2-cons}
-use Rattle.lent_slices.specs.Lengths.{first_rows, first-0, first-1, first-2, none_found}
+use Rattle.lent_slices.specs.Lengths.{row_in, first_rows, first-0, first-1, first-2, none_found}
 use Rattle.snap_model.specs.Call.{slices, found, outcome, call}
 use Rattle.snap_model.specs.Points.{settled, new, not-refused}
 use Rattle.snap_model.specs.Looking.{shares_answer, shares_answer_lem}
-use Rattle.snap_call.specs.Answer.{snap_to_answer}
-use Rattle.snap_call.specs.declared.SnapAnswer.{SnapAnswer}
-use Rattle.snap_call.specs.declared.SnapAnswer.TheVariants.{Done}
+use Rattle.lent_slices.specs.declared.SizeRefusal.{SizeRefusal}
+use Rattle.lent_slices.specs.declared.SizeRefusal.TheVariants.{VertexCount, SliceLength}
+use Rattle.snap_call.specs.Answer.{snap_to_refusal, of_size}
+use Rattle.snap_call.specs.declared.SnapRefusal.{SnapRefusal}
 
 -- where rows 1 and 2 find nothing the lengths m, p are right
-module _ (n m p k : ℕ) (e : k ≡ first_rows n (slice m (points_length n) ∷ slice p (coordinates_length n) ∷ [])) (z : k ≡ 0) where
+module _ (n m p : ℕ) (e : 0 ≡ first_rows n (slice m (points_length n) ∷ slice p (coordinates_length n) ∷ [])) where
   shares_first : (m ≡ 2 * n) × (row2 (slice p (coordinates_length n) ∷ []) ≡ false)
-  shares_first = (row2-cons m (points_length n) (slice p (coordinates_length n) ∷ [])).0 (none_found n _ k e z).1
+  shares_first = (row2-cons m (points_length n) (slice p (coordinates_length n) ∷ [])).0 (none_found n _ 0 e refl).1
 
   pub shares_long : m ≡ 2 * n
   shares_long = shares_first.0
@@ -60,53 +61,51 @@ module _ (n : ℕ) (shares : List Float) (scale : ℕ) (bs : List ℤ) where
       ≡ outcome (found (row1 most_vertices n) (row2 lent) (not (scale_allowed scale))) (snap_all (effective_scale default_scale scale) shares) bs
   in_parts = unfold snap_call in call default_scale n shares scale bs
 
-  -- k is what rows 1 and 2 find
-  module _ (k : ℕ) (e : k ≡ first_rows n lent) where
-    pub gives_early : (k ≡ 0 → ⊥) → Gives (refused (numbered k)) bs
-    gives_early f =
-        elim (tested (row1 most_vertices n)) [
-          | inl g ↦
-              let z : k ≡ 1 = e ∙ sym (first-1 n lent g) in
-              rw z (gives (same (numbered 1)) (rw (in_parts, g) (unfold found outcome in refl)))
-          | inr g ↦ elim (tested (row2 lent)) [
-            | inl h ↦
-                let z : k ≡ 2 = e ∙ sym (first-2 n lent g h) in
-                rw z (gives (same (numbered 2)) (rw (in_parts, g, h) (unfold found outcome in refl)))
-            | inr h ↦ absurd (f (e ∙ sym (first-0 n lent g h)))
-          ]
+  -- rows 1 and 2 find k
+  early : (k : ℕ) → k ≡ first_rows n lent → 0 < k → Gives (refused (numbered k)) bs
+  early k e f =
+      elim (tested (row1 most_vertices n)) [
+        | inl g ↦
+            let z : k ≡ 1 = e ∙ sym (first-1 n lent g) in
+            rw z (gives (same (numbered 1)) (rw (in_parts, g) (unfold found outcome in refl)))
+        | inr g ↦ elim (tested (row2 lent)) [
+          | inl h ↦
+              let z : k ≡ 2 = e ∙ sym (first-2 n lent g h) in
+              rw z (gives (same (numbered 2)) (rw (in_parts, g, h) (unfold found outcome in refl)))
+          | inr h ↦ absurd (omega (arith, first-0 n lent g h))
         ]
+      ]
 
-    -- they find nothing
-    module _ (z : k ≡ 0) where
-      -- row 14
-      pub gives_scale : scale_allowed scale ≡ false → Gives (refused (numbered 14)) bs
-      gives_scale g =
-          let f = none_found n lent k e z in
-          gives (same (numbered 14)) (rw (in_parts, f.0, f.1, g) (unfold found outcome in refl))
+  pub gives_size : (size : SizeRefusal) → row_in (Err size) ≡ first_rows n lent → Gives (refused (snap_to_refusal (of_size size))) bs
+  gives_size VertexCount e = early 1 e (omega arith)
+  gives_size SliceLength e = early 2 e (omega arith)
 
-      -- the points decide, and a is what is found of them
-      module _ (g : scale_allowed scale ≡ true) (r : ℕ) (i : r ≡ effective_scale default_scale scale) (a : SnapAnswer)
-          (l : snap_to_answer a ≡ shares_answer shares) where
-        h : snap_to_answer a ≡ settled (snap_all r shares)
-        h = l ∙ sym (shares_answer_lem r n shares (shares_long n (length shares) (length bs) k e z))
+  -- they find nothing
+  module _ (e : 0 ≡ first_rows n lent) where
+    -- row 14
+    pub gives_scale : false ≡ scale_allowed scale → Gives (refused (numbered 14)) bs
+    gives_scale g =
+        let f = none_found n lent 0 e refl in
+        gives (same (numbered 14)) (rw (in_parts, f.0, f.1, ← g) (unfold found outcome in refl))
 
-        decided : snap_call n shares scale bs ≡ outcome none (snap_all r shares) bs
-        decided = let f = none_found n lent k e z in rw (in_parts, f.0, f.1, g, ← i) (unfold found in refl)
+    -- the points decide
+    module _ (g : true ≡ scale_allowed scale) where
+      decided : snap_call n shares scale bs ≡ outcome none (snap_all (effective_scale default_scale scale) shares) bs
+      decided = let f = none_found n lent 0 e refl in rw (in_parts, f.0, f.1, ← g) (unfold found in refl)
 
-        -- the first that is refused is answered, and the coordinates stay as lent
-        pub gives_refusal : (snap_to_answer a ≡ done tt → ⊥) → Gives (snap_to_answer a) bs
-        gives_refusal s =
-            rw h (gives (record { answer = settled (snap_all r shares); coordinates = bs }) (decided ∙ is_refused (snap_all r shares) bs (λ d. s (h ∙ d))))
+      looked : (r : ℕ) → settled (snap_all r shares) ≡ shares_answer shares
+      looked r = shares_answer_lem r n shares (shares_long n (length shares) (length bs) e)
 
-        -- none is, and the coordinates are theirs
-        pub gives_done : a ≡ Done → (cs : List ℤ) → cs ≡ new (snap_all r shares) → Gives (done tt) cs
-        gives_done s cs f =
-            rw f (gives (record { answer = done tt; coordinates = new (snap_all r shares) })
-            (decided ∙ is_done (snap_all r shares) bs (sym h ∙ ap snap_to_answer s)))
+      -- the first that is refused is answered, and the coordinates stay as lent
+      pub gives_refusal : (why : SnapRefusal) → refused (snap_to_refusal why) ≡ shares_answer shares → Gives (refused (snap_to_refusal why)) bs
+      gives_refusal why l =
+          let w = snap_all (effective_scale default_scale scale) shares in
+          let h : refused (snap_to_refusal why) ≡ settled w = l ∙ sym (looked _) in
+          rw h (gives (record { answer = settled w; coordinates = bs }) (decided ∙ is_refused w bs (λ d. not-refused (snap_to_refusal why) (h ∙ d))))
 
--- what the tests found, for the calls after them
-pub scale_found : (scale : ℕ) (a b : Bool) → a ≡ scale_allowed scale → a ≡ b → scale_allowed scale ≡ b
-scale_found scale a b e g = sym e ∙ g
-
-pub none-refused : (shares : List Float) (a : SnapAnswer) → snap_to_answer a ≡ shares_answer shares → a ≡ Done → shares_answer shares ≡ done tt
-none-refused shares a e g = sym e ∙ ap snap_to_answer g
+      -- none is, and the coordinates are theirs
+      pub gives_done : done tt ≡ shares_answer shares → (r : ℕ) → r ≡ effective_scale default_scale scale → (cs : List ℤ) → cs ≡ new (snap_all r shares)
+          → Gives (done tt) cs
+      gives_done l r i cs f =
+          let w = snap_all r shares in
+          rw f (gives (record { answer = done tt; coordinates = new w }) ((rw (← i) at decided) ∙ is_done w bs (looked r ∙ sym l)))

@@ -5,42 +5,68 @@ ghost use Rattle.std.specs.Prelude.{◌≡◌, true, [], ◌∷◌, ◌+◌, ◌
 ghost use Rattle.std.specs.Float.{nan, binary64};
 ghost use Rattle.std.specs.Float.Ieee.{top, hid};
 ghost use Rattle.std.proofs.lemmas.List.Edits.{sets};
-ghost use Rattle.definitions.specs.Answers.{done, refused};
+ghost use Rattle.definitions.specs.Answers.{done, number};
 ghost use Rattle.definitions.specs.DrawnPoints as Drawn;
 ghost use Rattle.definitions.specs.Refusals.{snap_call};
 ghost use Rattle.snap_model.specs.Bits.{units};
 ghost use Rattle.snap_model.specs.Share as Share;
 ghost use Rattle.snap_model.specs.Points.{new};
 ghost use Rattle.snap_model.specs.Looking.{shares_answer};
-ghost use Rattle.snap_call.specs.Answer.{snap_to_answer};
+ghost use Rattle.snap_call.specs.Answer.{snap_to_refusal, snap_to_answer, of_size};
 
-// What a list of points is answered: done, or refused with the number of the table, 16 with the share itself.
-#[derive(Clone, Copy)]
-pub enum SnapAnswer {
-    Done,
-    Refused(u32),
+use lent_slices::{Contents, SizeRefusal};
+
+// Why a list of points is refused: the rows of the table of refusals by name, the last with the share itself.
+#[derive(Clone, Copy, Debug, PartialEq)]
+pub enum SnapRefusal {
+    VertexCount,
+    SliceLength,
+    Scale,
+    NotFinite,
     Outside(f64),
+}
+
+impl SnapRefusal {
+    // the number of the row
+    pub fn number(self) -> u32
+        ensures { result ≡ number (snap_to_refusal self) }
+    {
+        match self {
+            SnapRefusal::VertexCount => 1,
+            SnapRefusal::SliceLength => 2,
+            SnapRefusal::Scale => 14,
+            SnapRefusal::NotFinite => 15,
+            SnapRefusal::Outside(_) => 16,
+        }
+    }
+}
+
+impl From<SizeRefusal> for SnapRefusal {
+    ghost from_gives = { λ size why. why ≡ of_size size };
+
+    fn from(size: SizeRefusal) -> SnapRefusal {
+        match size {
+            SizeRefusal::VertexCount => SnapRefusal::VertexCount,
+            SizeRefusal::SliceLength => SnapRefusal::SliceLength,
+        }
+    }
 }
 
 // What scale 0 stands for.
 const USUAL_SCALE: u32 = 20;
 
+#[tactic(auto, using(crate::specs::ShareCases::scale_zero, crate::specs::ShareCases::scale_other))]
 fn exact_scale(scale: u32) -> u32
     ensures { result ≡ Drawn.effective_scale Drawn.default_scale scale }
 {
     if scale == 0 { USUAL_SCALE } else { scale }
 }
 
+#[tactic(auto, unfolding(definitions::specs::DrawnPoints::scale_allowed))]
 fn scale_allowed(scale: u32) -> bool
     ensures { result ≡ Drawn.scale_allowed scale }
 {
-    if scale == 0 {
-        return true;
-    }
-    if scale < 4 {
-        return false;
-    }
-    scale <= 24
+    scale == 0 || (4..=24).contains(&scale)
 }
 
 // ± a, negative where the bool is true.
@@ -48,14 +74,13 @@ fn with_sign(negative: bool, a: u64) -> i64
     requires { a < 2 ^ 53 }
     ensures { result ≡ Drawn.signed negative a }
 {
-    if negative {
-        return -(a as i64);
-    }
-    a as i64
+    let size = a as i64;
+    if negative { -size } else { size }
 }
 
 // The whole number nearest to a / 2 ^ d, halves to the even one: just under a half is added, or a whole half where the whole part is odd, and the rest is
 // shifted out.
+#[tactic(auto, using(crate::specs::ShareCases::nearest_shifted, crate::specs::ShareCases::nearest_fits))]
 fn nearest(a: u64, d: u64) -> u64
     requires { (0 < d) × (d < 54) × (a < 2 ^ 53) }
     ensures value { result ≡ Drawn.nearest a (2 ^ d) }
@@ -68,14 +93,12 @@ fn nearest(a: u64, d: u64) -> u64
 // The bit of an f64's sign, above its exponent's field and its digits.
 const SIGN: u64 = 0x8000_0000_0000_0000;
 
-// The least bits below the sign that stand for no finite number.
-const ENDLESS: u64 = 0x7ff0_0000_0000_0000;
-
 // The leading digit of an f64, which its bits leave out, and the weight of its exponent's field.
 const LEADING: u64 = 0x10_0000_0000_0000;
 
 // The whole number of the f64 with these bits, from -2 to 2, at an exact scale r. Its digits, the leading one with them, count 2 ^ (field - 1075). Where
 // field and scale are small it is less than a half; so is every f64 without a leading digit, whose field is 0.
+#[tactic(auto, using(crate::specs::ShareCases::bits_none, crate::specs::ShareCases::bits_some))]
 fn snap_bits(bits: u64, r: u64) -> i64
     requires { (r ≤ 24) × (bits % top binary64 / hid binary64 ≤ 1024) }
     ensures { result ≡ Drawn.signed (leb (top binary64) bits) (Drawn.nearest (units bits * 2 ^ r) (2 ^ 1074)) }
@@ -88,58 +111,45 @@ fn snap_bits(bits: u64, r: u64) -> i64
     with_sign(bits >= SIGN, size)
 }
 
-// Whether a share is no number, or infinite.
-fn not_finite(share: f64) -> bool
-    ensures { result ≡ Share.endless share }
-{
-    if share != share {
-        return true;
-    }
-    f64::to_bits(share) % SIGN >= ENDLESS
-}
-
 // Whether a share is from -2 to 2.
 fn inside(share: f64) -> bool
     ensures { result ≡ Share.inside share }
 {
-    if share >= -2.0 {
-        return share <= 2.0;
-    }
-    false
+    -2.0 <= share && share <= 2.0
 }
 
 // Why a share that is not from -2 to 2 is refused: 15 goes before 16.
-fn refuse(share: f64) -> SnapAnswer
-    ensures { snap_to_answer result ≡ refused (Share.refusal share) }
+#[tactic(auto, using(crate::specs::ShareCases::refusals))]
+fn refuse(share: f64) -> SnapRefusal
+    ensures { snap_to_refusal result ≡ Share.refusal share }
 {
-    if not_finite(share) {
-        return SnapAnswer::Refused(15);
+    if share.is_finite() {
+        SnapRefusal::Outside(share)
+    } else {
+        SnapRefusal::NotFinite
     }
-    SnapAnswer::Outside(share)
 }
 
 // Looks at the shares in order and writes nothing.
-fn find_refusal(shares: &[f64]) -> SnapAnswer
+#[tactic(auto, using(crate::specs::LoopLaws::looked_more, crate::specs::LoopLaws::looked_stop, crate::specs::LoopLaws::looked_all))]
+fn find_refusal(shares: &[f64]) -> Result<(), SnapRefusal>
     ensures { snap_to_answer result ≡ shares_answer shares.now }
 {
-    let mut i = 0;
-    while i < shares.len() {
-        let share = shares[i];
-        if inside(share) {
-            i += 1;
-        } else {
-            return refuse(share);
+    for &share in shares {
+        if !inside(share) {
+            return Err(refuse(share));
         }
     }
-    SnapAnswer::Done
+    Ok(())
 }
 
 // The whole number of a share from -2 to 2, at an exact scale r.
+#[tactic(auto, using(crate::specs::ShareCases::passing))]
 fn snap_share(share: f64, r: u32) -> i64
     requires { (r ≤ 24) × (Share.inside share ≡ true) }
     ensures { Drawn.snap r share ≡ Drawn.whole result }
 {
-    snap_bits(f64::to_bits(share), r as u64)
+    snap_bits(share.to_bits(), u64::from(r))
 }
 
 // The third coordinate, from the exact scale r and the first two.
@@ -147,8 +157,7 @@ fn third_coordinate(kx: i64, ky: i64, r: u32) -> i64
     requires { (nat_abs kx ≤ 2 ^ 25) × (nat_abs ky ≤ 2 ^ 25) × (r ≤ 24) }
     ensures { result ≡ pos (2 ^ r) -ℤ kx -ℤ ky }
 {
-    let total = with_sign(false, 1 << r);
-    int64::minus(int64::minus(total, kx), ky)
+    (1 << r) - kx - ky
 }
 
 // A drawn point: the share x of v0, and the share y of v1.
@@ -170,6 +179,7 @@ fn point_at(shares: &[f64], i: usize) -> Point
 }
 
 // Writes the three coordinates of a point whose shares are from -2 to 2.
+#[tactic(auto, using(crate::specs::LoopLaws::storing))]
 fn write_point(point: Point, r: u32, coordinates: &mut [i64], at: usize)
     requires { (r ≤ 24) × (at + 3 ≤ length coordinates.old) × (Share.inside point.x ≡ true) × (Share.inside point.y ≡ true) }
     ensures { coordinates.new ≡ sets coordinates.old at (new (Drawn.snap_all r (point.x ∷ point.y ∷ []))) }
@@ -187,30 +197,32 @@ fn write_points(n: usize, shares: &[f64], r: u32, coordinates: &mut [i64])
         × (shares_answer shares.now ≡ done tt) }
     ensures { coordinates.new ≡ new (Drawn.snap_all r shares.now) }
 {
-    let mut i = 0;
-    while i < n {
-        write_point(point_at(shares, i), r, &mut *coordinates, 3 * i);
-        i += 1;
+    for i in 0..n {
+        write_point(point_at(shares, i), r, coordinates, 3 * i);
     }
 }
 
 // Snaps n points, two shares to each, to three coordinates each. Every share is looked at before the first point is written.
-pub fn snap_points(n: usize, shares: &[f64], scale: u32, coordinates: &mut [i64]) -> SnapAnswer
+pub fn snap_points(
+    n: usize,
+    shares: &[f64],
+    scale: u32,
+    coordinates: &mut [i64],
+) -> Result<(), SnapRefusal>
     ensures answer { snap_to_answer result ≡ (snap_call n shares.now scale coordinates.old).answer }
     ensures coordinates { coordinates.new ≡ (snap_call n shares.now scale coordinates.old).coordinates }
 {
-    let number = lent_slices::snap_rows(n, shares.len(), coordinates.len());
-    if number != 0 {
-        return SnapAnswer::Refused(number);
+    lent_slices::check_sizes(
+        n,
+        &[
+            (Contents::Points, shares.len()),
+            (Contents::Coordinates, coordinates.len()),
+        ],
+    )?;
+    if !scale_allowed(scale) {
+        return Err(SnapRefusal::Scale);
     }
-    if scale_allowed(scale) {
-        let r = exact_scale(scale);
-        let found = find_refusal(shares);
-        let SnapAnswer::Done = found else {
-            return found;
-        };
-        write_points(n, shares, r, coordinates);
-        return SnapAnswer::Done;
-    }
-    SnapAnswer::Refused(14)
+    find_refusal(shares)?;
+    write_points(n, shares, exact_scale(scale), coordinates);
+    Ok(())
 }

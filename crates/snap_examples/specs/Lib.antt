@@ -1,3 +1,2 @@
--- What the cases look at, and what printing a number rests on.
+-- What the cases look at.
 pub mod Seen
-pub mod Size

@@ -7,28 +7,31 @@ ghost use Rattle.std.specs.Prelude.{◌≡◌};
 ghost use Rattle.snap_call.specs.Answer.{snap_to_answer};
 ghost use Rattle.snap_examples.specs.Seen.{number_of, whole_of};
 
-use snap_call::SnapAnswer;
+use snap_call::SnapRefusal;
+use std::num::f64_from_bits_with_nan;
 
 // the file descriptor of standard output
 const STDOUT_FILENO: i32 = 1;
 
-fn number(answer: SnapAnswer) -> u64
+// the number of an answer, 0 for done
+fn number(answer: Result<(), SnapRefusal>) -> u32
     ensures { result ≡ number_of (snap_to_answer answer) }
 {
     match answer {
-        SnapAnswer::Done => 0,
-        SnapAnswer::Refused(k) => k as u64,
-        SnapAnswer::Outside(_) => 16,
+        Ok(()) => 0,
+        Err(why) => why.number(),
     }
 }
 
+// What is seen of a call: the number of its answer, and the first coordinate.
 #[derive(Clone, Copy)]
 pub struct Seen {
-    pub number: u64,
+    pub number: u32,
     pub whole: i64,
 }
 
-// Three points of the same share: the answer's number, and the first coordinate.
+// Three points of the same share.
+#[tactic(auto, using(crate::specs::Seen::first_is), unfolding(crate::specs::Seen::whole_of))]
 fn snapped(share: f64, scale: u32) -> Seen
     ensures { result.whole ≡ whole_of share scale }
 {
@@ -39,14 +42,6 @@ fn snapped(share: f64, scale: u32) -> Seen
         number: number(answer),
         whole: coordinates[0],
     }
-}
-
-// The f64 of a pattern; for the patterns of no number, 0 / 0.
-fn share_of(bits: u64) -> f64 {
-    if bits % 0x8000_0000_0000_0000 > 0x7ff0_0000_0000_0000 {
-        return 0.0 / 0.0;
-    }
-    f64::from_bits(bits)
 }
 
 // P9, P10 and P11.
@@ -224,53 +219,31 @@ const PATTERNS: [u64; 146] = [
     0xffffffffffffffff,
 ];
 
-fn size(k: i64) -> u64 {
-    if k < -1000000000 {
-        return 0;
-    }
-    if k < 0 {
-        return (-k) as u64;
-    }
-    k as u64
-}
-
 fn space() {
     io::write_all(STDOUT_FILENO, b" ");
 }
 
+// By the calls of io: println! would rest on more of the operating system.
 fn print(bits: u64, scale: u32, seen: Seen) {
     io::print_hex(STDOUT_FILENO, bits, 16);
     space();
-    io::print_decimal(STDOUT_FILENO, scale as u64);
+    io::print_decimal(STDOUT_FILENO, u64::from(scale));
     space();
-    io::print_decimal(STDOUT_FILENO, seen.number);
+    io::print_decimal(STDOUT_FILENO, u64::from(seen.number));
     space();
-    let k = seen.whole;
-    if k < 0 {
+    if seen.whole < 0 {
         io::write_all(STDOUT_FILENO, b"-");
     }
-    io::print_decimal(STDOUT_FILENO, size(k));
+    io::print_decimal(STDOUT_FILENO, seen.whole.unsigned_abs());
     io::write_all(STDOUT_FILENO, b"\n");
-}
-
-fn all(scale: u32) {
-    let patterns = PATTERNS;
-    let mut i = 0;
-    while i < 146 {
-        let bits = patterns[i];
-        print(bits, scale, snapped(share_of(bits), scale));
-        i += 1;
-    }
 }
 
 fn main() {
     paper();
     halves();
-    all(0);
-    all(4);
-    all(16);
-    all(23);
-    all(24);
-    all(25);
-    all(3);
+    for scale in [0, 4, 16, 23, 24, 25, 3] {
+        for bits in PATTERNS {
+            print(bits, scale, snapped(f64_from_bits_with_nan(bits), scale));
+        }
+    }
 }

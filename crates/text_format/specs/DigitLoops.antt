@@ -1,31 +1,20 @@
 -- An iteration of each loop, and a sign, in the shape in which the code hands them over. Assumes nothing.
-use Rattle.std.specs.Prelude.{ℕ, zero, suc, ◌+◌, ◌-◌, ◌/◌, ◌%◌, ◌^◌, ◌≤◌, ◌<◌, ◌≡◌, refl, Bool, true, false, List, [], ◌∷◌, ◌++◌, length, take, drop, set, ℤ, pos, nat_abs}
+use Rattle.std.specs.Prelude.{ℕ, zero, suc, ◌+◌, ◌*◌, ◌-◌, ◌/◌, ◌%◌, ◌^◌, ◌≤◌, ◌<◌, ◌≡◌, refl, Bool, true, false, List, [], ◌∷◌, ◌++◌, length, take}
+use Rattle.std.specs.Prelude.{drop, set, ℤ, pos, nat_abs}
 use Rattle.std.proofs.Common.{sym, ap, ◌∙◌, true≢false, arith, length-append, take-append-drop, take_all, drop_at, SFits, of_z, to_z, to_z-of_z}
 use Rattle.std.proofs.Math.ListN.{get_or-append}
 use Rattle.std.specs.Int.Signed.{lt_z}
 use Rattle.std.specs.Int.{w64}
 use Rattle.definitions.specs.Job.{value, decimal}
-use Rattle.text_model.specs.Numbers.{numeral, numeral_short, count-one, count-more, numeral-digits, numeral-value, signed, decimal-signed, Last, last-digit}
-use Rattle.text_model.specs.Writing.{Puts, Wrote, fill-back}
+use Rattle.text_model.specs.Numbers.{numeral, count-one, count-more, numeral-digits, numeral-value, signed, decimal-signed, Last, last-digit}
+use Rattle.text_model.specs.Writing.{Wrote, fill-back}
 
 -- ---- how many digits n has
 
--- m is left of n, and c is one more than the digits that were taken off
-pub record Counted (n m c : ℕ) : Type 0 where
-  pub all : c + length (numeral m) ≡ length (numeral n) + 1
-  pub short : length (numeral n) ≤ 20
-
-pub counted_none : (n : ℕ) → n < 2 ^ 64 → Counted n n 1
-counted_none n h = record { all = omega arith; short = numeral_short n h }
-
-pub counted_more : (n m c : ℕ) → Counted n m c → 10 ≤ m → Counted n (m / 10) (c + 1)
-counted_more n m c a h = record { all = omega (arith, count-more m h); short = a.short }
-
-pub counted_all : (n m c : ℕ) → Counted n m c → m < 10 → c ≡ length (numeral n)
-counted_all n m c a h = omega (arith, count-one m h)
-
-pub counted_few : (n m c : ℕ) → Counted n m c → m < 10 → c ≤ 20
-counted_few n m c a h = omega (arith, count-one m h)
+-- one more than the logarithm
+pub count-log : (k n : ℕ) → 10 ^ k ≤ n → n < 10 * 10 ^ k → length (numeral n) ≡ k + 1
+count-log zero n a b = count-one n (omega arith)
+count-log (suc k) n a b = omega (arith, count-more n (omega arith), count-log k (n / 10) (omega arith) (omega arith))
 
 -- ---- digits, from the last to the first
 
@@ -64,10 +53,6 @@ module _ (n count : ℕ) (old : List ℕ) (e : count ≡ length (numeral n)) (h 
   filled_more out m (suc k) f p =
       let s : suc k - 1 ≡ k = omega arith in
       rw s (step out m k f)
-
-  pub filled_all : (out : List ℕ) (m k : ℕ) → Filled n count old out m k → k ≤ 0 → Puts (numeral n) old out
-  filled_all out m zero f p = record { bytes = f.bytes ∙ ap (λ (j : ℕ). numeral n ++ drop j old) e }
-  filled_all out m (suc k) f p = absurd (omega arith)
 
 -- ---- a sign and the digits after it
 

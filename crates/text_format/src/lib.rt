@@ -1,7 +1,8 @@
-// Decimal numbers, and lines of a keyword and numbers after tabs, written at the front of a slice. Each writer answers how many bytes it wrote.
+// Decimal numbers, and lines of a keyword and numbers after tabs, written at the front of a slice. Each writer answers how many bytes it wrote:
+// document 01 names this form.
 #![tactic(auto)]
 
-ghost use Rattle.std.specs.Prelude.{◌+◌, ◌<◌, ◌≤◌, suc, ◌≡◌, [], ◌∷◌, length, get_or, pos};
+ghost use Rattle.std.specs.Prelude.{◌+◌, ◌<◌, ◌≤◌, suc, ◌≡◌, [], ◌∷◌, length};
 ghost use Rattle.definitions.specs.Job.{decimal, TAB, write_line};
 ghost use Rattle.text_model.specs.Numbers.{numeral, signed};
 ghost use Rattle.text_model.specs.Writing.{Puts, Wrote, tabbed};
@@ -10,13 +11,10 @@ ghost use Rattle.text_model.specs.Writing.{Puts, Wrote, tabbed};
 pub fn digit_count(n: u64) -> usize
     ensures { (result ≡ length (numeral n)) × (result ≤ 20) }
 {
-    let mut m = n;
-    let mut c: usize = 1;
-    while 10 <= m {
-        m = m / 10;
-        c += 1;
+    match n.checked_ilog10() {
+        Some(k) => k as usize + 1,
+        None => 1,
     }
-    c
 }
 
 // The digits of n, of which there are `count`, from the last to the first.
@@ -25,11 +23,9 @@ fn put_digits(n: u64, count: usize, out: &mut [u8])
     ensures { Puts (numeral n) out.old out.new }
 {
     let mut m = n;
-    let mut k = count;
-    while 0 < k {
-        k -= 1;
-        out[k] = 48 + ((m % 10) as u8);
-        m = m / 10;
+    for k in (0..count).rev() {
+        out[k] = b'0' + (m % 10) as u8;
+        m /= 10;
     }
 }
 
@@ -38,7 +34,7 @@ fn put_natural(n: u64, out: &mut [u8]) -> usize
     ensures { Wrote (numeral n) out.old out.new result }
 {
     let count = digit_count(n);
-    put_digits(n, count, &mut *out);
+    put_digits(n, count, out);
     count
 }
 
@@ -46,7 +42,7 @@ fn put_natural(n: u64, out: &mut [u8]) -> usize
 pub fn decimal_length(z: i64) -> usize
     ensures { (result ≡ length (decimal z)) × (result ≤ 21) }
 {
-    signed_length(int64::less(z, 0), int64::magnitude(z) as u64)
+    signed_length(z < 0, z.unsigned_abs())
 }
 
 fn signed_length(minus: bool, m: u64) -> usize
@@ -69,10 +65,10 @@ fn put_signed(minus: bool, m: u64, out: &mut [u8]) -> usize
     ensures { Wrote (signed minus m) out.old out.new result }
 {
     if minus {
-        let a = put_byte(45, &mut *out);
+        let a = put_byte(b'-', out);
         return a + put_natural(m, &mut out[a..]);
     }
-    put_natural(m, &mut *out)
+    put_natural(m, out)
 }
 
 // z, with a minus where it is below 0.
@@ -80,37 +76,27 @@ pub fn put_decimal(z: i64, out: &mut [u8]) -> usize
     requires { length (decimal z) ≤ length out.old }
     ensures { Wrote (decimal z) out.old out.new result }
 {
-    let minus = int64::less(z, 0);
-    let m = int64::magnitude(z) as u64;
-    put_signed(minus, m, &mut *out)
+    put_signed(z < 0, z.unsigned_abs(), out)
 }
 
+// One by one: `copy_from_slice` calls C's memcpy, whose first call takes more stack than a call of ours may.
 pub fn put_bytes(word: &[u8], out: &mut [u8]) -> usize
     requires { length word.now ≤ length out.old }
     ensures { Wrote word.now out.old out.new result }
 {
-    let mut i = 0;
-    while i < word.len() {
+    for i in 0..word.len() {
         out[i] = word[i];
-        i += 1;
     }
-    i
+    word.len()
 }
 
-// Number k, after its tab.
-fn put_field(xs: &[i64], k: usize, out: &mut [u8]) -> usize
-    requires { (k < length xs.now) × (suc (length (decimal (get_or xs.now k (pos 0)))) ≤ length out.old) }
-    ensures { Wrote (TAB ∷ decimal (get_or xs.now k (pos 0))) out.old out.new result }
+// A number, after its tab.
+fn put_field(x: i64, out: &mut [u8]) -> usize
+    requires { suc (length (decimal x)) ≤ length out.old }
+    ensures { Wrote (TAB ∷ decimal x) out.old out.new result }
 {
-    let a = put_byte(9, &mut *out);
-    a + put_decimal(xs[k], &mut out[a..])
-}
-
-fn field_length(xs: &[i64], k: usize) -> usize
-    requires { k < length xs.now }
-    ensures { (result ≡ suc (length (decimal (get_or xs.now k (pos 0))))) × (result ≤ 22) }
-{
-    1 + decimal_length(xs[k])
+    let a = put_byte(b'\t', out);
+    a + put_decimal(x, &mut out[a..])
 }
 
 fn put_fields(xs: &[i64], out: &mut [u8]) -> usize
@@ -118,10 +104,8 @@ fn put_fields(xs: &[i64], out: &mut [u8]) -> usize
     ensures { Wrote (tabbed xs.now) out.old out.new result }
 {
     let mut at = 0;
-    let mut k = 0;
-    while k < xs.len() {
-        at += put_field(xs, k, &mut out[at..]);
-        k += 1;
+    for &x in xs {
+        at += put_field(x, &mut out[at..]);
     }
     at
 }
@@ -131,10 +115,8 @@ fn fields_length(xs: &[i64]) -> usize
     ensures { (result ≡ length (tabbed xs.now)) × (result ≤ 352) }
 {
     let mut at = 0;
-    let mut k = 0;
-    while k < xs.len() {
-        at += field_length(xs, k);
-        k += 1;
+    for &x in xs {
+        at += 1 + decimal_length(x);
     }
     at
 }
@@ -143,9 +125,9 @@ pub fn put_line(word: &[u8], xs: &[i64], out: &mut [u8]) -> usize
     requires { length (write_line word.now xs.now) ≤ length out.old }
     ensures { Wrote (write_line word.now xs.now) out.old out.new result }
 {
-    let a = put_bytes(word, &mut *out);
+    let a = put_bytes(word, out);
     let b = a + put_fields(xs, &mut out[a..]);
-    b + put_byte(10, &mut out[b..])
+    b + put_byte(b'\n', &mut out[b..])
 }
 
 pub fn line_length(word: &[u8], xs: &[i64]) -> usize

@@ -1,5 +1,5 @@
 -- What the readers of numbers and lines answer, and their steps.
-pub mod NumberAnswers
+pub mod Answer
+pub mod NumberSteps
 pub mod ByteLoops
-pub mod LineAnswers
 pub mod LineSteps

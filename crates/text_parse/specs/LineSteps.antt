@@ -1,73 +1,114 @@
--- One step through a line, in the shape in which the code hands it over: results of calls, and the parts that were lent. Assumes nothing.
-use Rattle.std.specs.Prelude.{ℕ, suc, ◌+◌, ◌≤◌, ◌<◌, ◌≡◌, Bool, true, false, List, [], ◌∷◌, length, take, drop}
-use Rattle.std.proofs.Common.{sym, ap, ◌∙◌, add-one, arith}
+-- Steps through a line, in the shape in which the code hands them over: results of calls, and the parts that were lent. Assumes nothing.
+use Rattle.std.specs.Prelude.{ℕ, suc, ◌+◌, ◌≤◌, ◌<◌, ◌≡◌, ◌==◌, refl, Bool, true, false, ◌&&◌, ltb, cond, List, [], ◌∷◌, eqb, length, take, drop}
+use Rattle.std.specs.Prelude.{position, None, Some}
+use Rattle.std.proofs.Common.{sym, ap, ◌∙◌, arith, lt-ltb, le-ltb, ltb-true, ltb-false}
+use Rattle.std.proofs.lemmas.Grind.{common_steps}
+use Rattle.std.proofs.lemmas.List.Recursion.{is_position_or_len}
 use Rattle.std.proofs.Math.Option.{Option, none, some}
-use Rattle.definitions.specs.Job.{LF, TAB, same_bytes, fields, vertex_field, three}
-use Rattle.text_model.specs.Positions.{index_of, next_line, next_line_some, next_line-none}
-use Rattle.text_model.specs.Layouts.{Begins, no_tab, other_word, the_word, Takes, take_alone, take_broken, take_vertex, last_of, last-last}
-use Rattle.text_parse.specs.declared.Vertex.{Vertex}
-use Rattle.text_parse.specs.declared.Vertex.TheVariants.{Corner, NoCorner}
-use Rattle.text_parse.specs.NumberAnswers.{as_vertex, vertex_value, vertex_broken}
+use Rattle.std.specs.List.{position_or_len}
+use Rattle.std.specs.Str.{bytes_eq}
+use Rattle.definitions.specs.Job.{TAB, same_bytes, fields, vertex_field, three}
+use Rattle.text_model.specs.Positions.{index_of, fields-more, fields-last}
+use Rattle.text_model.specs.Layouts.{Begins, no_tab, other_word, the_word, corners_of, last-field, vertex_tab}
 
--- ---- the word, which ends at k: with no tab, with another word, and with the word and `rest` after it
+-- ---- the place of a byte
 
-module _ {A B : Type 0} {layout inner : List (List ℕ) → Option A} {word : List ℕ} (answer : Option A → B) (b : Begins layout inner word) where
-  pub word_alone : (s : List ℕ) (k : ℕ) → k ≡ index_of TAB s → length s ≤ k → answer none ≡ answer (layout (fields s))
-  word_alone s k e h = ap answer (sym (no_tab layout inner word b s (omega arith)))
+index_is : (b : ℕ) (s : List ℕ) → index_of b s ≡ position_or_len (λ x. x == b) s
+unfolding index_of
+index_is b = is_position_or_len (index_of b) (λ x. x == b) refl more
+  where
+    more : (x : ℕ) (xs : List ℕ) → index_of b (x ∷ xs) ≡ cond (x == b) 0 (1 + index_of b xs)
+    more x xs = let e : 1 + index_of b xs ≡ suc (index_of b xs) = omega arith in rw e refl
 
-  module _ (s f : List ℕ) (k : ℕ) (r : Bool) (e : k ≡ index_of TAB s) (h : k < length s) (p : f ≡ take k s) (q : r ≡ same_bytes f word) where
-    first : same_bytes (take (index_of TAB s) s) word ≡ r
-    first = cc
+module _ (b : ℕ) (s : List ℕ) where
+  pub place-none : None ≡ position (λ x. x == b) s → length s ≤ index_of b s
+  place-none e = let i = index_is b s in grind (arith, common_steps)
 
-    pub word-other : r ≡ false → answer none ≡ answer (layout (fields s))
-    word-other n = ap answer (sym (other_word layout inner word b s (omega arith) (first ∙ n)))
+  pub place_some : (k : ℕ) → Some k ≡ position (λ x. x == b) s → (k < length s) × (k ≡ index_of b s)
+  place_some k e = let i = index_is b s in grind (arith, common_steps)
 
-    pub word_then : r ≡ true → (rest : List ℕ) → rest ≡ drop (k + 1) s → (x : B) → x ≡ answer (inner (fields rest))
-        → x ≡ answer (layout (fields s))
-    word_then y rest d x z =
-        let l : drop (suc (index_of TAB s)) s ≡ rest = cc (add-one k) in
-        z ∙ ap answer (sym (the_word layout inner word b s (omega arith) (first ∙ y) ∙ ap (λ (o : List ℕ). inner (fields o)) l))
+-- ---- the word
 
--- ---- a vertex, which ends at k: with no tab, with none there, and with a and `rest` after it
+same_is : (s t : List ℕ) → same_bytes s t ≡ bytes_eq s t
+unfolding same_bytes
+same_is [] [] = refl
+same_is [] (y ∷ ys) = refl
+same_is (x ∷ xs) [] = refl
+same_is (x ∷ xs) (y ∷ ys) = ap (λ r. eqb x y && r) (same_is xs ys)
 
-module _ {layout : List (List ℕ) → Option (List ℕ)} {inner : ℕ → List (List ℕ) → Option (List ℕ)} (t : Takes layout inner) where
-  pub corner_alone : (s : List ℕ) (k : ℕ) → k ≡ index_of TAB s → length s ≤ k → none ≡ layout (fields s)
-  corner_alone s k e h = sym (take_alone layout inner t s (omega arith))
+-- what follows the first field of s, where that is the word
+unfoldable pub after_word : List ℕ → List ℕ → Option (List ℕ)
+unfolding index_of
+after_word word s =
+    cond (ltb (index_of TAB s) (length s) && same_bytes (take (index_of TAB s) s) word) (some (drop (suc (index_of TAB s)) s)) none
 
-  module _ (s f : List ℕ) (k : ℕ) (r : Vertex) (e : k ≡ index_of TAB s) (h : k < length s) (p : f ≡ take k s) (q : r ≡ as_vertex (vertex_field f)) where
-    found : (o : Option ℕ) → vertex_field f ≡ o → vertex_field (take (index_of TAB s) s) ≡ o
-    found o g = cc
+module _ (word s : List ℕ) where
+  pub word_alone : length s ≤ index_of TAB s → after_word word s ≡ none
+  unfolding after_word
+  word_alone h = rw (le-ltb (index_of TAB s) (length s) h)
 
-    pub corner_broken : r ≡ NoCorner → none ≡ layout (fields s)
-    corner_broken n = sym (take_broken layout inner t s (omega arith) (found none (vertex_broken (vertex_field f) r q n)))
+  module _ (f : List ℕ) (r : Bool) (h : index_of TAB s < length s) (e : f ≡ take (index_of TAB s) s) (q : r ≡ bytes_eq f word) where
+    tested : same_bytes (take (index_of TAB s) s) word ≡ r
+    tested = same_is (take (index_of TAB s) s) word ∙ ap (λ t. bytes_eq t word) (sym e) ∙ sym q
 
-    pub corner_then : (a : ℕ) → r ≡ Corner a → (rest : List ℕ) → rest ≡ drop (k + 1) s → (x : Option (List ℕ))
-        → x ≡ inner a (fields rest) → x ≡ layout (fields s)
-    corner_then a y rest d x z =
-        let v : vertex_field (take (index_of TAB s) s) ≡ some a = found (some a) (vertex_value (vertex_field f) a r q y) in
-        let l : drop (suc (index_of TAB s)) s ≡ rest = cc (add-one k) in
-        z ∙ sym (take_vertex layout inner t s a (omega arith) v ∙ ap (λ (o : List ℕ). inner a (fields o)) l)
+    pub word-other : r ≡ false → after_word word s ≡ none
+    unfolding after_word
+    word-other n = rw (lt-ltb (index_of TAB s) (length s) h, tested, n)
 
--- ---- the last vertex
+    pub word_then : r ≡ true → (rest : List ℕ) → rest ≡ drop (suc (index_of TAB s)) s → after_word word s ≡ some rest
+    unfolding after_word
+    word_then y rest d = rw (lt-ltb (index_of TAB s) (length s) h, tested, y, d)
 
-pub last_broken : (a b : ℕ) (s : List ℕ) (r : Vertex) → r ≡ as_vertex (vertex_field s) → r ≡ NoCorner → none ≡ last_of a b (fields s)
+-- a layout that wants the word and then another layout
+module _ {A : Type 0} {layout inner : List (List ℕ) → Option A} {word : List ℕ} (b : Begins layout inner word) (s : List ℕ) where
+  follow : Option (List ℕ) → Option A
+  follow none = none
+  follow (some rest) = inner (fields rest)
+
+  follows : layout (fields s) ≡ follow (after_word word s)
+  unfolding after_word follow
+  follows = go (ltb (index_of TAB s) (length s)) (same_bytes (take (index_of TAB s) s) word) refl refl
+    where
+      go : (x y : Bool) → ltb (index_of TAB s) (length s) ≡ x → same_bytes (take (index_of TAB s) s) word ≡ y
+          → layout (fields s) ≡ follow (cond (x && y) (some (drop (suc (index_of TAB s)) s)) none)
+      go true true p q = the_word layout inner word b s (ltb-true _ _ p) q
+      go true false p q = other_word layout inner word b s (ltb-true _ _ p) q
+      go false y p q = no_tab layout inner word b s (ltb-false _ _ p)
+
+  pub word_none : after_word word s ≡ none → layout (fields s) ≡ none
+  unfolding follow
+  word_none e = follows ∙ ap follow e
+
+  pub word_some : (rest : List ℕ) → after_word word s ≡ some rest → layout (fields s) ≡ inner (fields rest)
+  unfolding follow
+  word_some rest e = follows ∙ ap follow e
+
+-- ---- three vertices, a, b and c
+
+three-none : (x y : Option ℕ) → three x y none ≡ none
 unfolding three
-last_broken a b s r e n = sym (last-last a b s ∙ ap (three (some a) (some b)) (vertex_broken (vertex_field s) r e n))
+three-none none y = refl
+three-none (some a) none = refl
+three-none (some a) (some b) = refl
 
-pub last_some : (a b k : ℕ) (s : List ℕ) (r : Vertex) → r ≡ as_vertex (vertex_field s) → r ≡ Corner k →
-    some (a ∷ b ∷ k ∷ []) ≡ last_of a b (fields s)
-unfolding three
-last_some a b k s r e y = sym (last-last a b s ∙ ap (three (some a) (some b)) (vertex_value (vertex_field s) k r e y))
+module _ (s : List ℕ) where
+  pub corners-alone : length s ≤ index_of TAB s → corners_of (fields s) ≡ none
+  unfolding corners_of
+  corners-alone h = rw (fields-last s h)
 
--- ---- the next line, after an LF at k of the rest
+  module _ (a rest : List ℕ) (h : index_of TAB s < length s) (e : a ≡ take (index_of TAB s) s) (d : rest ≡ drop (suc (index_of TAB s)) s) where
+    pub corners-two : length rest ≤ index_of TAB rest → corners_of (fields s) ≡ none
+    unfolding corners_of
+    corners-two k = rw (fields-more s h, ← d, fields-last rest k)
 
-pub next_some : (text rest : List ℕ) (at k : ℕ) → rest ≡ drop at text → k ≡ index_of LF rest → at < length text → k < length rest →
-    at + k + 1 ≡ next_line text at
-next_some text rest at k e f h l =
-    sym (next_line_some text at k h (f ∙ ap (index_of LF) e) (rw (ap {B = ℕ} length e) at l))
-
-pub next-none : (text rest : List ℕ) (at k : ℕ) → rest ≡ drop at text → k ≡ index_of LF rest → at < length text → length rest ≤ k →
-    length text ≡ next_line text at
-next-none text rest at k e f h l =
-    let g : length (drop at text) ≤ index_of LF (drop at text) = omega (arith, ap {B = ℕ} length e, ap (index_of LF) e) in
-    sym (next_line-none text at h g)
+    pub corners_three : (b c : List ℕ) → index_of TAB rest < length rest → b ≡ take (index_of TAB rest) rest → c ≡ drop (suc (index_of TAB rest)) rest
+        → corners_of (fields s) ≡ three (vertex_field a) (vertex_field b) (vertex_field c)
+    unfolding corners_of
+    corners_three b c k f g =
+        rw (fields-more s h, ← d, ← e, fields-more rest k, ← g, ← f)
+        (last-field (λ fs. corners_of (a ∷ b ∷ fs)) (λ z. three (vertex_field a) (vertex_field b) (vertex_field z))
+        (record {
+          single = λ z. refl;
+          several = λ z u fs. refl;
+          tab = λ z t. rw (vertex_tab z t) (three-none (vertex_field a) (vertex_field b));
+        }) c)

@@ -1,321 +1,148 @@
 // The job text, read from bytes: decimal numbers from a slice that holds one field; fields; and the three layouts of a line, which is given without its LF.
 #![tactic(auto)]
 
-ghost use Rattle.std.specs.Prelude.{◌≡◌, pos, neg_ℤ, ℕ, take, drop};
-ghost use Rattle.definitions.specs.Job.{natural_to, vertex_field, weight_field, same_bytes, fields, head_line, triangle_line, weight_line, read_line};
+ghost use Rattle.std.specs.Prelude.{◌≡◌, ◌==◌, position, ◌<◌, ◌≤◌, ℕ, suc, take, drop, length, MatchOption};
+ghost use Rattle.std.proofs.Math.Option.{none, some};
+ghost use Rattle.definitions.specs.Job.{LF, natural_to, vertex_field, weight_field, fields, head_line, triangle_line, weight_line, read_line};
 ghost use Rattle.text_model.specs.Scan.{scan};
-ghost use Rattle.text_model.specs.Numbers.{plus, minus};
-ghost use Rattle.text_parse.specs.NumberAnswers.{as_number, as_vertex, as_weight};
-ghost use Rattle.text_parse.specs.NumberAnswers.{as_vertex, as_weight, vertex_in, weight_in};
-ghost use Rattle.text_model.specs.Positions.{index_of, next_line};
-ghost use Rattle.text_model.specs.Layouts.{corners_of, pair_of, last_of};
+ghost use Rattle.text_model.specs.Positions.{index_of};
+ghost use Rattle.text_model.specs.Layouts.{corners_of};
 ghost use Rattle.text_model.specs.Reading.{line_of};
-ghost use Rattle.text_parse.specs.LineAnswers.{corners_in};
-
-#[derive(Clone, Copy)]
-pub enum Number {
-    Value(u32),
-    Broken,
-}
-
-// A vertex: 0..65535.
-#[derive(Clone, Copy)]
-pub enum Vertex {
-    Corner(u16),
-    NoCorner,
-}
-
-// A weight: -2147483648..2147483647.
-#[derive(Clone, Copy)]
-pub enum Weight {
-    Weighs(i64),
-    NoWeight,
-}
-
-fn wide(x: u32) -> u64
-    ensures { result ≡ x }
-{
-    x as u64
-}
+ghost use Rattle.text_parse.specs.Answer.{option_of};
+ghost use Rattle.text_parse.specs.LineSteps.{after_word};
 
 // Digits, the number being at most `most`.
-fn digits_to(s: &[u8], most: u32) -> Number
-    ensures { result ≡ as_number (scan most 0 s.now) }
+fn digits_to(s: &[u8], most: u32) -> Option<u32>
+    ensures { option_of result ≡ scan most 0 s.now }
 {
-    let top = wide(most);
-    let mut v: u64 = 0;
-    let mut i = 0;
-    while i < s.len() {
-        let b = s[i];
-        if b < 48 {
-            return Number::Broken;
+    let mut v = 0;
+    for &b in s {
+        if b < b'0' || b'9' < b {
+            return None;
         }
-        if 57 < b {
-            return Number::Broken;
+        v = 10 * v + u64::from(b - b'0');
+        if u64::from(most) < v {
+            return None;
         }
-        let next = 10 * v + ((b - 48) as u64);
-        if top < next {
-            return Number::Broken;
-        }
-        v = next;
-        i += 1;
     }
-    Number::Value(v as u32)
+    Some(v as u32)
 }
 
 // Digits with no leading zero.
-pub fn natural_to(s: &[u8], most: u32) -> Number
-    ensures { result ≡ as_number (natural_to most s.now) }
+pub fn natural_to(s: &[u8], most: u32) -> Option<u32>
+    ensures { option_of result ≡ natural_to most s.now }
 {
-    if s.len() == 0 {
-        return Number::Broken;
-    }
-    if s.len() == 1 {
-        return digits_to(s, most);
-    }
-    if s[0] == 48 {
-        return Number::Broken;
+    if s.is_empty() || (s.len() > 1 && s[0] == b'0') {
+        return None;
     }
     digits_to(s, most)
 }
 
-pub fn read_vertex(s: &[u8]) -> Vertex
-    ensures { result ≡ as_vertex (vertex_field s.now) }
+// A vertex: 0..65535.
+pub fn read_vertex(s: &[u8]) -> Option<u16>
+    ensures { option_of result ≡ vertex_field s.now }
 {
-    let Number::Value(k) = natural_to(s, 65535) else {
-        return Vertex::NoCorner;
-    };
-    Vertex::Corner(k as u16)
+    let k = natural_to(s, 65_535)?;
+    Some(k as u16)
 }
 
-fn above(k: u32) -> i64
-    ensures { result ≡ pos k }
+// A weight: -2147483648..2147483647, and no -0.
+pub fn read_weight(s: &[u8]) -> Option<i64>
+    ensures { option_of result ≡ weight_field s.now }
 {
-    k as i64
-}
-
-fn below(k: u32) -> i64
-    ensures { result ≡ neg_ℤ (pos k) }
-{
-    0 - (k as i64)
-}
-
-fn positive(s: &[u8]) -> Weight
-    ensures { result ≡ as_weight (plus (natural_to 2147483647 s.now)) }
-{
-    let Number::Value(k) = natural_to(s, 2147483647) else {
-        return Weight::NoWeight;
-    };
-    Weight::Weighs(above(k))
-}
-
-// What follows a minus: -0 is none.
-fn negative(s: &[u8]) -> Weight
-    ensures { result ≡ as_weight (minus (natural_to 2147483648 s.now)) }
-{
-    let Number::Value(k) = natural_to(s, 2147483648) else {
-        return Weight::NoWeight;
-    };
-    if k == 0 {
-        return Weight::NoWeight;
+    match s.strip_prefix(b"-") {
+        Some(digits) => {
+            let k = natural_to(digits, 2_147_483_648)?;
+            if k == 0 { None } else { Some(-i64::from(k)) }
+        }
+        None => {
+            let k = natural_to(s, 2_147_483_647)?;
+            Some(i64::from(k))
+        }
     }
-    Weight::Weighs(below(k))
-}
-
-pub fn read_weight(s: &[u8]) -> Weight
-    ensures { result ≡ as_weight (weight_field s.now) }
-{
-    if s.len() == 0 {
-        return Weight::NoWeight;
-    }
-    if s[0] == 45 {
-        return negative(&s[1..]);
-    }
-    positive(s)
 }
 
 // The fixed bytes that begin a job text and a listing.
 pub const PACK_MAP: [u8; 8] = *b"pack-map";
 
-// A triangle's corners, in their order.
-#[derive(Clone, Copy)]
-pub enum Triangle {
-    Corners(u16, u16, u16),
-    NoTriangle,
+// The place of the first b.
+fn find(s: &[u8], b: u8) -> Option<usize>
+    ensures { result ≡ position (λ x. x == b) s.now }
+{
+    s.iter().position(|&x| x == b)
 }
 
-// The bytes from `at` on: none where `at` lies past the end.
-pub fn tail(s: &[u8], at: usize) -> &[u8]
-    ensures { result.now ≡ drop at s.now }
+// The bytes before the first b, and those after it.
+pub fn split_once(s: &[u8], b: u8) -> Option<(&[u8], &[u8])>
+    ensures { let k = index_of b s.now in MatchOption result (length s.now ≤ k)
+        (λ p. (k < length s.now) × (p.0.now ≡ take k s.now) × (p.1.now ≡ drop (suc k) s.now)) }
 {
-    if at <= s.len() {
-        &s[at..]
-    } else {
-        &s[s.len()..]
-    }
+    let k = find(s, b)?;
+    Some((&s[..k], &s[k + 1..]))
 }
 
-// The first bytes, at most `count` of them.
-pub fn front(s: &[u8], count: usize) -> &[u8]
-    ensures { result.now ≡ take count s.now }
+// What follows the first field, where that is the word.
+fn after_word<'a>(line: &'a [u8], word: &[u8]) -> Option<&'a [u8]>
+    ensures { MatchOption result (after_word word.now line.now ≡ none) (λ rest. after_word word.now line.now ≡ some rest.now) }
 {
-    if count <= s.len() {
-        &s[..count]
-    } else {
-        &s[..]
-    }
+    let (first, rest) = split_once(line, b'\t')?;
+    if first == word { Some(rest) } else { None }
 }
 
-pub fn same(a: &[u8], b: &[u8]) -> bool
-    ensures { result ≡ same_bytes a.now b.now }
+// The first line: the fixed bytes, and then a number.
+pub fn read_head(line: &[u8]) -> Option<u16>
+    ensures { option_of result ≡ head_line (fields line.now) }
 {
-    if a.len() != b.len() {
-        return false;
-    }
-    let mut i = 0;
-    while i < a.len() {
-        if a[i] != b[i] {
-            return false;
-        }
-        i += 1;
-    }
-    true
+    read_vertex(after_word(line, &PACK_MAP)?)
 }
 
-// The place of the first byte b, or the length where there is none.
-pub fn find(s: &[u8], b: u8) -> usize
-    ensures { result ≡ index_of b s.now }
+// Three vertices.
+fn corners(rest: &[u8]) -> Option<[u16; 3]>
+    ensures { option_of result ≡ corners_of (fields rest.now) }
 {
-    let mut i = 0;
-    while i < s.len() {
-        if s[i] == b {
-            return i;
-        }
-        i += 1;
-    }
-    i
+    let (a, rest) = split_once(rest, b'\t')?;
+    let (b, c) = split_once(rest, b'\t')?;
+    Some([read_vertex(a)?, read_vertex(b)?, read_vertex(c)?])
 }
 
-// Where the next line begins: at most at the end.
-pub fn next_line(text: &[u8], at: usize) -> usize
-    ensures { result ≡ next_line text.now at }
+// A triangle's line: its word, and then its corners, in their order.
+pub fn read_triangle(line: &[u8]) -> Option<[u16; 3]>
+    ensures { option_of result ≡ triangle_line (fields line.now) }
 {
-    if text.len() <= at {
-        return text.len();
-    }
-    let rest = tail(text, at);
-    let k = find(rest, 10);
-    if k < rest.len() {
-        at + k + 1
-    } else {
-        text.len()
-    }
-}
-
-pub fn read_head(line: &[u8]) -> Vertex
-    ensures { result ≡ as_vertex (head_line (fields line.now)) }
-{
-    let k = find(line, 9);
-    if line.len() <= k {
-        return Vertex::NoCorner;
-    }
-    if same(front(line, k), &PACK_MAP) {
-        return read_vertex(tail(line, k + 1));
-    }
-    Vertex::NoCorner
-}
-
-// A triangle's line: its word, and then three vertices.
-pub fn read_triangle(line: &[u8]) -> Triangle
-    ensures { corners_in result ≡ triangle_line (fields line.now) }
-{
-    let k = find(line, 9);
-    if line.len() <= k {
-        return Triangle::NoTriangle;
-    }
-    if same(front(line, k), b"t") {
-        return corners(tail(line, k + 1));
-    }
-    Triangle::NoTriangle
-}
-
-// Three vertices, of which the first ends in a tab.
-fn corners(rest: &[u8]) -> Triangle
-    ensures { corners_in result ≡ corners_of (fields rest.now) }
-{
-    let k = find(rest, 9);
-    if rest.len() <= k {
-        return Triangle::NoTriangle;
-    }
-    let Vertex::Corner(a) = read_vertex(front(rest, k)) else {
-        return Triangle::NoTriangle;
-    };
-    pair(a, tail(rest, k + 1))
-}
-
-fn pair(a: u16, rest: &[u8]) -> Triangle
-    ensures { corners_in result ≡ pair_of a (fields rest.now) }
-{
-    let k = find(rest, 9);
-    if rest.len() <= k {
-        return Triangle::NoTriangle;
-    }
-    let Vertex::Corner(b) = read_vertex(front(rest, k)) else {
-        return Triangle::NoTriangle;
-    };
-    last(a, b, tail(rest, k + 1))
-}
-
-fn last(a: u16, b: u16, rest: &[u8]) -> Triangle
-    ensures { corners_in result ≡ last_of a b (fields rest.now) }
-{
-    let Vertex::Corner(c) = read_vertex(rest) else {
-        return Triangle::NoTriangle;
-    };
-    Triangle::Corners(a, b, c)
+    corners(after_word(line, b"t")?)
 }
 
 // A weight's line.
-pub fn read_weighing(line: &[u8]) -> Weight
-    ensures { result ≡ as_weight (weight_line (fields line.now)) }
+pub fn read_weighing(line: &[u8]) -> Option<i64>
+    ensures { option_of result ≡ weight_line (fields line.now) }
 {
-    let k = find(line, 9);
-    if line.len() <= k {
-        return Weight::NoWeight;
-    }
-    if same(front(line, k), b"w") {
-        return read_weight(tail(line, k + 1));
-    }
-    Weight::NoWeight
+    read_weight(after_word(line, b"w")?)
 }
 
-// What the first line of a text holds, by each layout. A text with no LF has no line.
-pub fn head_at(rest: &[u8]) -> Vertex
-    ensures { (l : ℕ) → line_of (vertex_in result) l rest.now ≡ read_line head_line l rest.now }
+// The first line of a text. A text with no LF has no line.
+fn first_line(text: &[u8]) -> Option<&[u8]>
+    ensures { let k = index_of LF text.now in MatchOption result (length text.now ≤ k)
+        (λ line. (k < length text.now) × (line.now ≡ take k text.now)) }
 {
-    let k = find(rest, 10);
-    if rest.len() <= k {
-        return Vertex::NoCorner;
-    }
-    read_head(front(rest, k))
+    let (line, _) = split_once(text, b'\n')?;
+    Some(line)
 }
 
-pub fn triangle_at(rest: &[u8]) -> Triangle
-    ensures { (l : ℕ) → line_of (corners_in result) l rest.now ≡ read_line triangle_line l rest.now }
+// What the first line of a text holds, by each layout.
+pub fn head_at(rest: &[u8]) -> Option<u16>
+    ensures { (l : ℕ) → line_of (option_of result) l rest.now ≡ read_line head_line l rest.now }
 {
-    let k = find(rest, 10);
-    if rest.len() <= k {
-        return Triangle::NoTriangle;
-    }
-    read_triangle(front(rest, k))
+    read_head(first_line(rest)?)
 }
 
-pub fn weight_at(rest: &[u8]) -> Weight
-    ensures { (l : ℕ) → line_of (weight_in result) l rest.now ≡ read_line weight_line l rest.now }
+pub fn triangle_at(rest: &[u8]) -> Option<[u16; 3]>
+    ensures { (l : ℕ) → line_of (option_of result) l rest.now ≡ read_line triangle_line l rest.now }
 {
-    let k = find(rest, 10);
-    if rest.len() <= k {
-        return Weight::NoWeight;
-    }
-    read_weighing(front(rest, k))
+    read_triangle(first_line(rest)?)
+}
+
+pub fn weight_at(rest: &[u8]) -> Option<i64>
+    ensures { (l : ℕ) → line_of (option_of result) l rest.now ≡ read_line weight_line l rest.now }
+{
+    read_weighing(first_line(rest)?)
 }

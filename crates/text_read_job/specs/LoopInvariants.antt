@@ -1,46 +1,41 @@
 -- An iteration of each loop, in the shape in which the code hands it over. Assumes nothing.
-use Prim.Native.Nat.{ℕ, suc, ◌+◌, ◌*◌, ◌-◌, ◌≤◌, ◌<◌}
-use Rattle.std.specs.Prelude.{◌≡◌, refl, length, take, set, ℤ}
+use Rattle.std.specs.Prelude.{ℕ, suc, ◌+◌, ◌*◌, ◌-◌, ◌≤◌, ◌<◌, ◌≡◌, refl, length, take, drop, set, ℤ, None, Some}
+use Rattle.std.specs.Prelude.{Option as Maybe}
 use Rattle.std.proofs.Math.Path.{sym, ap}
-use Rattle.std.proofs.Common.{◌∙◌, add-one, length-set, take-suc-set, SFits, of_z, to_z, to_z-of_z}
-use mathlib.Core.List.{List, [], ◌∷◌, ◌++◌, flat_map, append_assoc, append-nil}
-use Rattle.std.proofs.Math.Option.{Option, none, some}
-use native.Mathlib.Omega.{arith}
-use Rattle.std.proofs.Math.ListN.{drop}
+use Rattle.std.proofs.Common.{◌∙◌, arith, add-one, length-drop, length-take-le, take-suc-set, SFits, of_z, to_z, to_z-of_z}
+use mathlib.Core.List.{List, [], ◌∷◌, ◌++◌, flat_map, append-nil}
+use Rattle.std.proofs.Math.Option.{Option}
+use Rattle.std.proofs.lemmas.Slice.{take-put_mid}
+use borrow.Rule.Slice.PartMut.{put_mid}
 use Rattle.std.specs.Int.{w64}
 use Rattle.definitions.specs.Job.{Read, got, breaks, read_line, read_lines, triangle_line, weight_line}
-use Rattle.text_model.specs.Positions.{next_line, drop-next_line}
-use Rattle.text_parse.specs.LineAnswers.{corners_in}
-use Rattle.text_parse.specs.NumberAnswers.{weight_in}
+use Rattle.text_model.specs.Positions.{next_line, after_line, drop-next_line}
+use Rattle.text_reader.specs.declared.Reader.{Reader}
+use Rattle.text_read_job.specs.Answer.{left}
+use Rattle.text_parse.specs.Answer.{option_of}
 use Rattle.text_model.specs.Reading.{line_of, prefix, prefix-none, prefix-prefix, lines_broken, lines_more, flat, triangles_broken, triangles-more}
 
--- three stores, one after another
-pub stores : {A : Type 0} (ts : List A) (i : ℕ) (a b c : A) → 3 * (i + 1) ≤ length ts
-    → take (3 * (i + 1)) (set (set (set ts (3 * i) a) (3 * i + 1) b) (3 * i + 2) c) ≡ take (3 * i) ts ++ (a ∷ b ∷ c ∷ [])
-stores {A} ts i a b c h =
-    let p = 3 * i in
-    let l₁ = set ts p a in
-    let l₂ = set l₁ (p + 1) b in
-    let e₃ : 3 * (i + 1) ≡ suc (p + 2) = omega arith in
-    let e₂ : p + 2 ≡ suc (p + 1) = omega arith in
-    let h₁ : p < length ts = omega arith in
-    let h₂ : p + 1 < length l₁ = omega (arith, length-set ts p a) in
-    let h₃ : p + 2 < length l₂ = omega (arith, length-set ts p a, length-set l₁ (p + 1) b) in
-    ap (λ (j : ℕ). take j (set l₂ (p + 2) c)) e₃
-    ∙ take-suc-set l₂ (p + 2) c h₃
-    ∙ ap (λ (l : List A). l ++ (c ∷ [])) (ap (λ (j : ℕ). take j l₂) e₂ ∙ take-suc-set l₁ (p + 1) b h₂)
-    ∙ ap (λ (l : List A). (l ++ (b ∷ [])) ++ (c ∷ [])) (ap (λ (j : ℕ). take j l₁) (add-one p) ∙ take-suc-set ts p a h₁)
-    ∙ append_assoc (take p ts ++ (a ∷ [])) (b ∷ []) (c ∷ [])
-    ∙ append_assoc (take p ts) (a ∷ []) (b ∷ c ∷ [])
+-- the text that is left once a reader has moved by a line
+pub moved : (r s : Reader) → (s.text ≡ r.text) × (s.at ≡ next_line r.text.now r.at) → left s ≡ after_line (left r)
+moved r s e = rw (e.0, e.1) (drop-next_line r.text.now r.at)
 
--- one store
-pub store : {A : Type 0} (ws : List A) (i : ℕ) (z : A) → i < length ws → take (i + 1) (set ws i z) ≡ take i ws ++ (z ∷ [])
-store ws i z h = ap (λ (j : ℕ). take j (set ws i z)) (add-one i) ∙ take-suc-set ws i z h
+-- three numbers stored
+pub three_stored : {A : Type 0} (ts ys xs : List A) (i : ℕ) → ys ≡ xs → length ys ≡ length (take (3 * (i + 1) - 3 * i) (drop (3 * i) ts))
+    → 3 * (i + 1) ≤ length ts → take (3 * (i + 1)) (put_mid (3 * i) (3 * (i + 1) - 3 * i) ts ys) ≡ take (3 * i) ts ++ xs
+three_stored ts ys xs i e l h =
+    let k = 3 * (i + 1) - 3 * i in
+    let m : length (take k (drop (3 * i) ts)) ≡ k = length-take-le k (drop (3 * i) ts) (omega (arith, length-drop (3 * i) ts)) in
+    take-put_mid (3 * i) k ts ys (3 * (i + 1)) (omega arith) (omega arith) ∙ ap (λ zs. take (3 * i) ts ++ zs) e
+
+-- a weight stored, which was handed over as bits
+pub weight_stored : (ws : List ℤ) (i : ℕ) (z : ℤ) → SFits w64 z → i < length ws →
+    take (i + 1) (set ws i (to_z w64 (of_z w64 z))) ≡ take i ws ++ (z ∷ [])
+weight_stored ws i z f h = rw (to_z-of_z f, add-one i) (take-suc-set ws i z h)
 
 -- ---- lines of one layout, of which each gives a few numbers of a list
 
--- how lines are read one after another, i of them into the first `size i` places, and what an answer tells of a line
-pub record Steady {A B Q : Type 0} (layout : List (List ℕ) → Option B) (told : Q → Option B) (numbers : B → List A) (size : ℕ → ℕ)
+-- how lines are read one after another, i of them into the first `size i` places
+pub record Steady {A B : Type 0} (layout : List (List ℕ) → Option B) (numbers : B → List A) (size : ℕ → ℕ)
     (lines : ℕ → ℕ → List ℕ → Read (List A)) : Type 0 where
   pub empty : size 0 ≡ 0
   pub none : (at : ℕ) (text : List ℕ) → lines 0 at text ≡ got [] text
@@ -57,79 +52,60 @@ threes i = 3 * i
 abbrev pub ones : ℕ → ℕ
 ones i = i
 
-pub triangles_steady : Steady triangle_line corners_in (λ (t : List ℕ). t) threes corners
+pub triangles_steady : Steady triangle_line (λ (t : List ℕ). t) threes corners
 unfolding flat read_lines flat_map
 triangles_steady = record { empty = refl; none = λ at text. refl; broken = triangles_broken; more = triangles-more }
 
-pub weights_steady : Steady weight_line weight_in (λ (z : ℤ). z ∷ []) ones (read_lines weight_line)
+pub weights_steady : Steady weight_line (λ (z : ℤ). z ∷ []) ones (read_lines weight_line)
 unfolding read_lines
 weights_steady = record { empty = refl; none = λ at text. refl; broken = lines_broken weight_line; more = lines_more weight_line }
 
--- Of `count` lines from line `first`, i have been read, and they gave the first `size i` of `now`. The next one begins at position `at`.
-pub record Reads {A : Type 0} (size : ℕ → ℕ) (lines : ℕ → ℕ → List ℕ → Read (List A)) (text : List ℕ) (start count first : ℕ)
-    (old now : List A) (at i : ℕ) : Type 0 where
-  pub within : i ≤ count
-  pub kept : length now ≡ length old
-  pub same : lines count first (drop start text) ≡ prefix (take (size i) now) (lines (count - i) (first + i) (drop at text))
+-- Of `count` lines from line `first`, which begin `text`, i have been read, and they gave the first `size i` of `now`. `rest` is left of the text.
+abbrev pub Reads : {A : Type 0} → (ℕ → ℕ) → (ℕ → ℕ → List ℕ → Read (List A)) → List ℕ → ℕ → ℕ → List A → List ℕ → ℕ → Type 0
+Reads size lines text count first now rest i = lines count first text ≡ prefix (take (size i) now) (lines (count - i) (first + i) rest)
 
-module _ {A B Q : Type 0} {layout : List (List ℕ) → Option B} {told : Q → Option B} {numbers : B → List A} {size : ℕ → ℕ}
-    {lines : ℕ → ℕ → List ℕ → Read (List A)} (steady : Steady layout told numbers size lines) where
-  pub reads_none : (text : List ℕ) (start count first : ℕ) (old : List A) → Reads size lines text start count first old old start 0
-  reads_none text start count first old =
+module _ {A B : Type 0} {layout : List (List ℕ) → Option B} {numbers : B → List A} {size : ℕ → ℕ} {lines : ℕ → ℕ → List ℕ → Read (List A)}
+    (steady : Steady layout numbers size lines) (text : List ℕ) (count first : ℕ) where
+  pub reads_none : (now : List A) → Reads size lines text count first now text 0
+  reads_none now =
       let c : count - 0 ≡ count = omega arith in
       let f : first + 0 ≡ first = omega arith in
-      record {
-        within = omega arith;
-        kept = refl;
-        same = rw (c, f, steady.empty) (sym (prefix-none (lines count first (drop start text))));
-      }
+      rw (c, f, steady.empty) (sym (prefix-none (lines count first text)))
 
-  module _ (text rest : List ℕ) (start count first : ℕ) (old now : List A) (at i : ℕ) (q : Q)
-      (inv : Reads size lines text start count first old now at i) (h : i < count) (e : rest ≡ drop at text)
-      (r : (l : ℕ) → line_of (told q) l rest ≡ read_line layout l rest) where
-    left : count - i ≡ suc (count - (i + 1))
-    left = omega arith
+  module _ (now : List A) (rest : List ℕ) (i : ℕ) (inv : Reads size lines text count first now rest i) where
+    -- line i, which was read from what was lent
+    module _ (h : i < count) (lent : List ℕ) (g : lent ≡ rest) (o : Maybe B)
+        (r : (l : ℕ) → line_of (option_of o) l lent ≡ read_line layout l lent) where
+      next : lines count first text ≡ prefix (take (size i) now) (lines (suc (count - (i + 1))) (first + i) rest)
+      next =
+          let l : count - i ≡ suc (count - (i + 1)) = omega arith in
+          rw l at inv
 
-    line : (o : Option B) → told q ≡ o → read_line layout (first + i) (drop at text) ≡ line_of o (first + i) (drop at text)
-    line o f = ap (read_line layout (first + i)) (sym e) ∙ sym (r (first + i)) ∙ ap (λ (p : Option B). line_of p (first + i) rest) f
-        ∙ ap (line_of o (first + i)) e
+      line : (p : Maybe B) → o ≡ p → read_line layout (first + i) rest ≡ line_of (option_of p) (first + i) rest
+      line p e = sym (rw (g, e) at (r (first + i)))
 
-    pub reads_broken : (bad : Q) → q ≡ bad → told bad ≡ none → breaks (first + i) ≡ lines count first (drop start text)
-    unfolding line_of prefix
-    reads_broken bad f g =
-        sym (inv.same ∙ ap (prefix (take (size i) now)) (ap (λ (k : ℕ). lines k (first + i) (drop at text)) left
-        ∙ steady.broken (count - (i + 1)) (first + i) (drop at text) (first + i) (line none (ap told f ∙ g))))
+      pub reads_broken : o ≡ None → (l : ℕ) → l ≡ first + i → breaks l ≡ lines count first text
+      unfolding line_of prefix
+      reads_broken e l f =
+          ap breaks f
+          ∙ sym (next ∙ ap (prefix (take (size i) now)) (steady.broken (count - (i + 1)) (first + i) rest (first + i) (line None e)))
 
-    pub reads_more : (good : Q) (x : B) (now' : List A) (at' : ℕ) → take (size (i + 1)) now' ≡ take (size i) now ++ numbers x → q ≡ good
-        → told good ≡ some x → at' ≡ next_line text at → length now' ≡ length now
-        → Reads size lines text start count first old now' at' (i + 1)
-    unfolding line_of
-    reads_more good x now' at' n f g p k =
-        let b : read_line layout (first + i) (drop at text) ≡ got x (drop at' text) = line (some x) (ap told f ∙ g)
-        ∙ ap (got x) (sym (drop-next_line text at) ∙ ap (λ (j : ℕ). drop j text) (sym p)) in
-        let s : suc (first + i) ≡ first + (i + 1) = omega arith in
-        record {
-          within = omega arith;
-          kept = k ∙ inv.kept;
-          same =
-              inv.same
-              ∙ ap (prefix (take (size i) now)) (ap (λ (k : ℕ). lines k (first + i) (drop at text)) left
-              ∙ steady.more (count - (i + 1)) (first + i) (drop at text) x (drop at' text) b)
-              ∙ prefix-prefix (take (size i) now) (numbers x) (lines (count - (i + 1)) (suc (first + i)) (drop at' text))
-              ∙ rw (s, n);
-        }
+      pub reads_more : (x : B) → o ≡ Some x → (now' : List A) (rest' : List ℕ)
+          → take (size (i + 1)) now' ≡ take (size i) now ++ numbers x → rest' ≡ after_line rest → Reads size lines text count first now' rest' (i + 1)
+      unfolding line_of
+      reads_more x e now' rest' n p =
+          let s : suc (first + i) ≡ first + (i + 1) = omega arith in
+          next
+          ∙ ap (prefix (take (size i) now)) (steady.more (count - (i + 1)) (first + i) rest x rest' (line (Some x) e ∙ ap (got x) (sym p)))
+          ∙ prefix-prefix (take (size i) now) (numbers x) (lines (count - (i + 1)) (suc (first + i)) rest')
+          ∙ rw (s, n)
 
-  pub reads_all : (text : List ℕ) (start count first : ℕ) (old now : List A) (at i : ℕ) → Reads size lines text start count first old now at i
-      → count ≤ i → got (take (size count) now) (drop at text) ≡ lines count first (drop start text)
-  unfolding prefix
-  reads_all text start count first old now at i inv h =
-      let z : count - i ≡ 0 = omega arith in
-      let c : count ≡ i = omega arith in
-      let all : lines count first (drop start text) ≡ got (take (size i) now) (drop at text) = inv.same
-      ∙ ap (prefix (take (size i) now)) (ap (λ (k : ℕ). lines k (first + i) (drop at text)) z ∙ steady.none (first + i) (drop at text))
-      ∙ rw (append-nil (take (size i) now)) in
-      ap (λ (j : ℕ). got (take (size j) now) (drop at text)) c ∙ sym all
-
--- a number that was handed over as bits
-pub stored : (z : ℤ) → SFits w64 z → some z ≡ some (to_z w64 (of_z w64 z))
-stored z f = ap some (sym (to_z-of_z f))
+    pub reads_all : i ≤ count → count ≤ i → got (take (size count) now) rest ≡ lines count first text
+    unfolding prefix
+    reads_all k h =
+        let z : count - i ≡ 0 = omega arith in
+        let c : count ≡ i = omega arith in
+        let all : lines count first text ≡ got (take (size i) now) rest = inv
+        ∙ ap (prefix (take (size i) now)) (ap (λ (k : ℕ). lines k (first + i) rest) z ∙ steady.none (first + i) rest)
+        ∙ rw (append-nil (take (size i) now)) in
+        ap (λ (j : ℕ). got (take (size j) now) rest) c ∙ sym all

@@ -1,5 +1,5 @@
-// A reader holds the job text and a position in it. It lends out the text from its next line on, and moves by a line. The work is in
-// functions of `text_parse`, which take the text and the position; the functions over the struct are thin.
+// A reader holds the job text and a position in it. It lends out the text from its next line on, and moves by a line. Document 01 names this
+// form, so the text stays whole beside the position.
 #![tactic(auto)]
 
 ghost use Rattle.std.specs.Prelude.{◌≡◌, drop};
@@ -11,47 +11,32 @@ pub struct Reader<'a> {
     pub at: usize,
 }
 
-// A reader whose next line begins at `at`.
-pub fn begin<'a>(text: &'a [u8], at: usize) -> Reader<'a>
-    ensures { (result.text ≡ text.entry) × (result.at ≡ at) }
-{
-    Reader { text, at }
-}
-
-// The text from the next line on.
-pub fn rest<'a>(r: Reader<'a>) -> &'a [u8]
-    ensures { result.now ≡ drop r.entry.at r.entry.text.now }
-{
-    text_parse::tail(r.text, r.at)
-}
-
-// The reader after its next line.
-pub fn moved<'a>(r: Reader<'a>) -> Reader<'a>
-    ensures { (result.text ≡ r.entry.text) × (result.at ≡ next_line r.entry.text.now r.entry.at) }
-{
-    let next = text_parse::next_line(r.text, r.at);
-    Reader {
-        text: r.text,
-        at: next,
+impl<'a> Reader<'a> {
+    // A reader whose next line is the first.
+    pub fn new(text: &'a [u8]) -> Self
+        ensures { (result.text ≡ text.entry) × (result.at ≡ 0) }
+    {
+        Reader { text, at: 0 }
     }
-}
 
-// Where the next line begins.
-pub fn place<'a>(r: Reader<'a>) -> usize
-    ensures { result ≡ r.entry.at }
-{
-    r.at
-}
+    // The text from the next line on.
+    pub fn rest(self) -> &'a [u8]
+        ensures { result.now ≡ drop self.entry.at self.entry.text.now }
+    {
+        &self.text[self.at.min(self.text.len())..]
+    }
 
-// The same for callers that hold the text and a position apart: the text from a position on, and the position after the line there.
-pub fn rest_from(text: &[u8], at: usize) -> &[u8]
-    ensures { result.now ≡ drop at text.now }
-{
-    rest(begin(text, at))
-}
-
-pub fn after_line(text: &[u8], at: usize) -> usize
-    ensures { result ≡ next_line text.now at }
-{
-    place(moved(begin(text, at)))
+    // The reader after its next line.
+    pub fn next_line(self) -> Self
+        ensures { (result.text ≡ self.entry.text) × (result.at ≡ next_line self.entry.text.now self.entry.at) }
+    {
+        let at = match text_parse::split_once(self.rest(), b'\n') {
+            Some((_, after)) => self.text.len() - after.len(),
+            None => self.text.len(),
+        };
+        Reader {
+            text: self.text,
+            at,
+        }
+    }
 }

@@ -1,13 +1,12 @@
 -- Steps of the writer of a listing, in the shape in which the code hands them over: a signed number as its bits. Assumes nothing.
-use Rattle.std.specs.Prelude.{ℕ, zero, suc, ◌+◌, ◌-◌, ◌*◌, ◌≤◌, ◌<◌, ◌≡◌, refl, List, [], ◌∷◌, ◌++◌, length, ℤ}
+use Rattle.std.specs.Prelude.{ℕ, zero, suc, ◌+◌, ◌-◌, ◌*◌, ◌≤◌, ◌<◌, ◌≡◌, refl, List, [], ◌∷◌, ◌++◌, length, ℤ, None, Some}
 use Rattle.std.proofs.Math.Path.{ap}
-use Rattle.std.proofs.Common.{◌∙◌, arith, add-one, length-append, SFits, of_z, to_z, to_z-of_z, lt-ltb, le-ltb}
+use Rattle.std.proofs.Common.{◌∙◌, arith, add-one, length-append, length-drop, SFits, of_z, to_z, to_z-of_z, lt-ltb, le-ltb}
 use Rattle.std.proofs.Math.IntN.{pos}
 use Rattle.std.specs.Int.{w64}
 use Rattle.definitions.specs.Backward.{coordinate}
 use Rattle.definitions.specs.Job.{bytes, pack_map, write_line, listing}
-use Rattle.text_model.specs.Writing.{Wrote, wrote_none, wrote_then, wrote_length, rest_of, put_rest, head_of, vertex_line, vertex_lines, listing_is}
-use Rattle.text_write_listing.specs.declared.Listed.TheVariants.{Bytes, Short}
+use Rattle.text_model.specs.Writing.{Wrote, wrote_none, wrote_then, rest_is, rest_of, put_rest, head_of, vertex_line, vertex_lines, listing_is}
 use Rattle.text_write_listing.specs.Answer.{Listing}
 
 -- ---- a line by its numbers
@@ -63,56 +62,36 @@ lines_grow bs i (suc j) =
     rw (e, length-append (vertex_lines bs (i + j)) (vertex_line bs (i + j))) (omega (arith, lines_grow bs i j))
 
 -- the line of vertex i, after those before it
-pub line_room : (bs : List ℤ) (i n : ℕ) → i < n → length (vertex_lines bs i) + length (vertex_line bs i) ≤ length (vertex_lines bs n)
+line_room : (bs : List ℤ) (i n : ℕ) → i < n → length (vertex_lines bs i) + length (vertex_line bs i) ≤ length (vertex_lines bs n)
 line_room bs i n h =
     let e : i + 1 + (n - (i + 1)) ≡ n = omega arith in
     omega (arith, next-length bs i, rw e at (lines_grow bs (i + 1) (n - (i + 1))))
 
--- the first i lines stand at the front, and the buffer keeps its length
-pub record Lines (n : ℕ) (bs : List ℤ) (old out : List ℕ) (at i : ℕ) : Type 0 where
-  pub within : i ≤ n
-  pub kept : length out ≡ length old
-  pub wrote : Wrote (vertex_lines bs i) old out at
-
-pub lines_none : (n : ℕ) (bs : List ℤ) (old : List ℕ) → Lines n bs old old 0 0
+-- the first i lines stand at the front
+pub lines_none : (bs : List ℤ) (old : List ℕ) → Wrote (vertex_lines bs 0) old old 0
 unfolding vertex_lines
-lines_none n bs old = record { within = omega arith; kept = refl; wrote = wrote_none old }
+lines_none bs old = wrote_none old
 
-pub lines_more : (n : ℕ) (bs : List ℤ) (old out ys : List ℕ) (at i r : ℕ) → Lines n bs old out at i → i < n →
-    length (vertex_lines bs n) ≤ length old
-    → Wrote (vertex_line bs i) (rest_of at out) ys r → Lines n bs old (put_rest at out ys) (at + r) (i + 1)
-lines_more n bs old out ys at i r a h l q =
-    let w : Wrote (vertex_lines bs (i + 1)) old (put_rest at out ys) (at + r) = rw (lines_next bs i)
-    (wrote_then (vertex_lines bs i) (vertex_line bs i) old out ys at r a.wrote q) in
-    record {
-      within = omega arith;
-      kept = wrote_length (vertex_lines bs (i + 1)) old (put_rest at out ys) (at + r) w (omega (arith, next-length bs i, line_room bs i n h));
-      wrote = w;
-    }
+module _ (bs : List ℤ) (old out : List ℕ) (at i : ℕ) (w : Wrote (vertex_lines bs i) old out at) where
+  pub lines_room : (n : ℕ) → i < n → length (vertex_lines bs n) ≤ length old → length out ≡ length old →
+      length (vertex_line bs i) ≤ length (rest_of at out)
+  lines_room n h l e = rw (rest_is at out) (omega (arith, length-drop at out, w.count, line_room bs i n h))
 
-pub lines_all : (n : ℕ) (bs : List ℤ) (old out : List ℕ) (at i : ℕ) → Lines n bs old out at i → n ≤ i → Wrote (vertex_lines bs n) old out at
-lines_all n bs old out at i a h =
-    let e : i ≡ n = omega arith in
-    rw e at a.wrote
+  pub lines_more : (ys : List ℕ) (r : ℕ) → Wrote (vertex_line bs i) (rest_of at out) ys r →
+      Wrote (vertex_lines bs (i + 1)) old (put_rest at out ys) (at + r)
+  lines_more ys r q = rw (lines_next bs i) (wrote_then (vertex_lines bs i) (vertex_line bs i) old out ys at r w q)
 
 -- `at` is the length of the first i lines
-pub record Counts (n : ℕ) (bs : List ℤ) (at i : ℕ) : Type 0 where
-  pub within : i ≤ n
+pub record Counts (bs : List ℤ) (at i : ℕ) : Type 0 where
   pub so_far : at ≡ length (vertex_lines bs i)
   pub small : at ≤ 369 * i
 
-pub counts_none : (n : ℕ) (bs : List ℤ) → Counts n bs 0 0
+pub counts_none : (bs : List ℤ) → Counts bs 0 0
 unfolding vertex_lines
-counts_none n bs = record { within = omega arith; so_far = refl; small = omega arith }
+counts_none bs = record { so_far = refl; small = omega arith }
 
-pub counts_more : (n : ℕ) (bs : List ℤ) (at i r : ℕ) → Counts n bs at i → i < n → r ≡ length (vertex_line bs i) → r ≤ 369 →
-    Counts n bs (at + r) (i + 1)
-counts_more n bs at i r a h e l = record { within = omega arith; so_far = omega (arith, next-length bs i); small = omega arith }
-
-pub counts_all : (n : ℕ) (bs : List ℤ) (at i : ℕ) → Counts n bs at i → n ≤ i → at ≡ length (vertex_lines bs n)
-counts_all n bs at i a h =
-    let e : i ≡ n = omega arith in
-    rw e at a.so_far
+pub counts_more : (bs : List ℤ) (at i r : ℕ) → Counts bs at i → r ≡ length (vertex_line bs i) → r ≤ 369 → Counts bs (at + r) (i + 1)
+counts_more bs at i r a e l = record { so_far = omega (arith, a.so_far, next-length bs i); small = omega (arith, a.small) }
 
 -- ---- the whole
 
@@ -137,12 +116,12 @@ module _ (n : ℕ) (N : ℤ) (raises : ℕ) (bs : List ℤ) (f : SFits w64 N) wh
     count : k ≡ length (listing n N raises bs)
     count = rw (to_z-of_z f) at e
 
-    pub short : length old < k → Listing (listing n N raises bs) old old Short
+    pub short : length old < k → Listing (listing n N raises bs) old old None
     short h = let no = lt-ltb (length old) (length (listing n N raises bs)) (omega (arith, count)) in record { answer = rw no; buffer = rw no }
 
     pub written : (out : List ℕ) (r : ℕ) → k ≤ length old → Wrote (listing n (to_z w64 (of_z w64 N)) raises bs) old out r →
-        Listing (listing n N raises bs) old out (Bytes r)
+        Listing (listing n N raises bs) old out (Some r)
     written out r h p =
         let w : Wrote (listing n N raises bs) old out r = rw (to_z-of_z f) at p in
         let yes = le-ltb (length old) (length (listing n N raises bs)) (omega (arith, count)) in
-        record { answer = rw yes (ap Bytes w.count); buffer = rw yes w.puts.bytes }
+        record { answer = rw yes (ap Some w.count); buffer = rw yes w.puts.bytes }

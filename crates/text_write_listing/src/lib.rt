@@ -7,18 +7,12 @@ ghost use Rattle.definitions.specs.Job.{listing};
 ghost use Rattle.text_model.specs.Writing.{Wrote, head_of, vertex_line, vertex_lines};
 ghost use Rattle.text_write_listing.specs.Answer.{Listing};
 
-// How many bytes were written; or the buffer is too short, and keeps its contents.
-#[derive(Clone, Copy)]
-pub enum Listed {
-    Bytes(usize),
-    Short,
-}
-
-fn number(k: usize) -> i64
-    requires { k < 65536 }
-    ensures { result ≡ pos k }
+// Coordinate c of vertex i, and 0 past the end.
+pub fn coordinate_of(bs: &[i64], c: usize, i: usize) -> i64
+    requires { (c < 3) × (i < 65536) }
+    ensures { result ≡ coordinate bs.now c i }
 {
-    k as i64
+    bs.get(3 * i + c).copied().unwrap_or(0)
 }
 
 // The numbers of a vertex's line.
@@ -27,10 +21,10 @@ fn vertex_numbers(i: usize, bs: &[i64]) -> [i64; 4]
     ensures { result ≡ pos i ∷ coordinate bs.now 0 i ∷ coordinate bs.now 1 i ∷ coordinate bs.now 2 i ∷ [] }
 {
     [
-        number(i),
-        int64::coordinate_of(bs, 0, i),
-        int64::coordinate_of(bs, 1, i),
-        int64::coordinate_of(bs, 2, i),
+        i as i64,
+        coordinate_of(bs, 0, i),
+        coordinate_of(bs, 1, i),
+        coordinate_of(bs, 2, i),
     ]
 }
 
@@ -39,7 +33,7 @@ fn head_numbers(n: usize, total: i64, raises: usize) -> [i64; 3]
     requires { (n < 65536) × (raises < 65536) }
     ensures { result ≡ pos n ∷ total ∷ pos raises ∷ [] }
 {
-    [number(n), total, number(raises)]
+    [n as i64, total, raises as i64]
 }
 
 fn put_vertex(i: usize, bs: &[i64], out: &mut [u8]) -> usize
@@ -47,7 +41,7 @@ fn put_vertex(i: usize, bs: &[i64], out: &mut [u8]) -> usize
     ensures { Wrote (vertex_line bs.now i) out.old out.new result }
 {
     let xs = vertex_numbers(i, bs);
-    text_format::put_line(b"v", &xs, &mut *out)
+    text_format::put_line(b"v", &xs, out)
 }
 
 fn vertex_length(i: usize, bs: &[i64]) -> usize
@@ -63,7 +57,7 @@ fn put_head(n: usize, total: i64, raises: usize, out: &mut [u8]) -> usize
     ensures { Wrote (head_of n total raises) out.old out.new result }
 {
     let xs = head_numbers(n, total, raises);
-    text_format::put_line(&text_parse::PACK_MAP, &xs, &mut *out)
+    text_format::put_line(&text_parse::PACK_MAP, &xs, out)
 }
 
 fn head_length(n: usize, total: i64, raises: usize) -> usize
@@ -80,10 +74,8 @@ fn put_vertices(n: usize, bs: &[i64], out: &mut [u8]) -> usize
     ensures { Wrote (vertex_lines bs.now n) out.old out.new result }
 {
     let mut at = 0;
-    let mut i = 0;
-    while i < n {
+    for i in 0..n {
         at += put_vertex(i, bs, &mut out[at..]);
-        i += 1;
     }
     at
 }
@@ -93,10 +85,8 @@ fn vertices_length(n: usize, bs: &[i64]) -> usize
     ensures { (result ≡ length (vertex_lines bs.now n)) × (result ≤ 369 * n) }
 {
     let mut at = 0;
-    let mut i = 0;
-    while i < n {
+    for i in 0..n {
         at += vertex_length(i, bs);
-        i += 1;
     }
     at
 }
@@ -113,18 +103,23 @@ fn put_listing(n: usize, total: i64, raises: usize, bs: &[i64], out: &mut [u8]) 
     requires { (n < 65536) × (raises < 65536) × (length (listing n total raises bs.now) ≤ length out.old) }
     ensures { Wrote (listing n total raises bs.now) out.old out.new result }
 {
-    let a = put_head(n, total, raises, &mut *out);
+    let a = put_head(n, total, raises, out);
     a + put_vertices(n, bs, &mut out[a..])
 }
 
-// The listing at the front of the buffer, and nothing where the buffer is too short.
-pub fn write_listing(n: usize, total: i64, raises: usize, bs: &[i64], out: &mut [u8]) -> Listed
+// The listing at the front of the buffer, and its length; nothing where the buffer is too short, which keeps its contents.
+pub fn write_listing(
+    n: usize,
+    total: i64,
+    raises: usize,
+    bs: &[i64],
+    out: &mut [u8],
+) -> Option<usize>
     requires { (n < 65536) × (raises < 65536) }
     ensures { Listing (listing n total raises bs.now) out.old out.new result }
 {
-    let bytes = listing_length(n, total, raises, bs);
-    if out.len() < bytes {
-        return Listed::Short;
+    if out.len() < listing_length(n, total, raises, bs) {
+        return None;
     }
-    Listed::Bytes(put_listing(n, total, raises, bs, &mut *out))
+    Some(put_listing(n, total, raises, bs, out))
 }

@@ -1,16 +1,18 @@
 -- `job_call::finish` meets its contract: each answer of repair gives one end of the job. Assumes nothing.
-use Rattle.std.proofs.Common.{rules}
-use Rattle.job_call.specs.Outcomes.{few_raises, finish-listed, finish-refused, finish_stopped}
+use Rattle.std.proofs.Common.{arith}
+use Rattle.std.proofs.lemmas.Result.{err_from_is_err_and}
+use Rattle.job_call.specs.Outcomes.{few_raises, finish-listed, finish-refused}
 use Rattle.job_call.proofs.finish.Goals as goal
 
+pub returns-in_err-raises : goal.returns-in_err-raises
+returns-in_err-raises c =
+    let p = err_from_is_err_and c.from_residual.result c.from_residual.ensures.1 in
+    rw (p.1, p.2) (finish-refused _ _ _ c.requires c.repair.result c.repair.ensures.answer _ c.in_err-raises.was _)
+
 pub list-requires : goal.list-requires
-list-requires c = search (few_raises, rules)
+list-requires c = (omega arith, few_raises _ _ _ c.requires c.repair.result c.repair.ensures.answer _ c.in_ok-raises.was)
 
-pub returns-in-Repaired : goal.returns-in-Repaired
-returns-in-Repaired c = search finish-listed
-
-pub returns-in-Refused : goal.returns-in-Refused
-returns-in-Refused c = search finish-refused
-
-pub returns-in-Stopped : goal.returns-in-Stopped
-returns-in-Stopped c = search finish_stopped
+pub returns : goal.returns
+returns c =
+    finish-listed _ _ _ c.requires c.repair.result c.repair.ensures.answer _ c.in_ok-raises.was _ c.repair.ensures.coordinates _ _ _
+    c.list.ensures

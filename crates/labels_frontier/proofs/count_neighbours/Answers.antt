@@ -1,29 +1,38 @@
 -- `labels_frontier::count_neighbours` meets its contract: the rest of the walk comes to the whole of it. Assumes nothing.
-use Rattle.std.proofs.Common.{rules}
-use Rattle.labels_model.specs.Preconditions.{room_kept}
-use Rattle.labels_frontier.specs.FrontierLaws.{walk_start, walk-prev, walk_asks, walk-over, walk-less, walk-on}
+use Rattle.labels_search.specs.Staged.{same_self, same_after}
+use Rattle.labels_frontier.specs.FrontierLaws.{room_of, room_in, walk_start, walk-prev, walk_asks, walk-over, walk-less, walk-on}
 use Rattle.labels_frontier.proofs.count_neighbours.Goals as goal
 
-pub loop-n-init : goal.loop-n-init
-loop-n-init c = search (walk_start, rules)
+pub loop-first-init : goal.loop-first-init
+loop-first-init c = (same_self _, walk_start _ _ _ _ (room_of c.args.s.now) c.requires)
 
 pub origin-w-requires : goal.origin-w-requires
-origin-w-requires c = search (walk-prev, room_kept, rules)
+origin-w-requires c =
+    rw c.as_slice-words.ensures (walk-prev c.loop-first.invariant.1 _ _ (room_in c.loop-first.invariant.0) c.prev_dart.ensures)
 
 pub count_neighbour-c-requires : goal.count_neighbour-c-requires
 count_neighbour-c-requires c =
-    walk_asks c.loop-n.invariant.walk c.prev_dart.result c.origin-w.result _ (room_kept c.loop-n.invariant.long c.requires.0)
-    c.prev_dart.ensures c.origin-w.ensures.is
+    rw c.loop-first.invariant.0.n
+    (walk_asks c.loop-first.invariant.1 _ _ c.prev_dart.ensures (rw c.as_slice-words.ensures at c.origin-w.ensures.is))
 
-pub returns-then-h-first : goal.returns-then-h-first
-returns-then-h-first c =
-    walk-over c.loop-n.invariant.walk c.prev_dart.result c.origin-w.result c.turn-h.result c.count_neighbour-c.result
-    c.prev_dart.ensures c.origin-w.ensures.is c.turn-h.ensures.is c.count_neighbour-c.ensures c.if-h-first.true
+pub returns-then-h-first-clause-counted : goal.returns-then-h-first-clause-counted
+returns-then-h-first-clause-counted c =
+    (walk-over c.loop-first.invariant.1 _ _ _ _ c.prev_dart.ensures (rw c.as_slice-words.ensures at c.origin-w.ensures.is)
+    (rw c.as_slice-words.ensures at c.turn-h.ensures.is) (rw c.loop-first.invariant.0.n at c.count_neighbour-c.ensures.counted) c.if-h-first.true).0
 
-pub loop-n-smaller : goal.loop-n-smaller
-loop-n-smaller c =
-    walk-less c.loop-n.invariant.walk c.prev_dart.result c.origin-w.result c.turn-h.result c.count_neighbour-c.result
-    c.prev_dart.ensures c.origin-w.ensures.is c.turn-h.ensures.is c.count_neighbour-c.ensures c.if-h-first.false
+pub returns-then-h-first-clause-few : goal.returns-then-h-first-clause-few
+returns-then-h-first-clause-few c =
+    (walk-over c.loop-first.invariant.1 _ _ _ _ c.prev_dart.ensures (rw c.as_slice-words.ensures at c.origin-w.ensures.is)
+    (rw c.as_slice-words.ensures at c.turn-h.ensures.is) (rw c.loop-first.invariant.0.n at c.count_neighbour-c.ensures.counted) c.if-h-first.true).1
 
-pub loop-n-preserved : goal.loop-n-preserved
-loop-n-preserved c = search (walk-on, rules)
+pub loop-first-smaller : goal.loop-first-smaller
+loop-first-smaller c =
+    walk-less c.loop-first.invariant.1 _ _ _ _ c.prev_dart.ensures (rw c.as_slice-words.ensures at c.origin-w.ensures.is)
+    (rw c.as_slice-words.ensures at c.turn-h.ensures.is) (rw c.loop-first.invariant.0.n at c.count_neighbour-c.ensures.counted) c.if-h-first.false
+
+pub loop-first-preserved : goal.loop-first-preserved
+loop-first-preserved c = (
+  same_after c.loop-first.invariant.0 c.count_neighbour-c.ensures.same,
+  walk-on c.loop-first.invariant.1 _ _ _ _ c.prev_dart.ensures (rw c.as_slice-words.ensures at c.origin-w.ensures.is)
+      (rw c.as_slice-words.ensures at c.turn-h.ensures.is) (rw c.loop-first.invariant.0.n at c.count_neighbour-c.ensures.counted) c.if-h-first.false,
+)

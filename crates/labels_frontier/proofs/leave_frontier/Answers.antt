@@ -1,10 +1,7 @@
 -- `labels_frontier::leave_frontier` meets its contract. Assumes nothing.
 use Rattle.std.proofs.Common.{rules}
-use Rattle.labels_frontier.specs.FrontierLaws.{still_some, leave_frontier_is}
+use Rattle.labels_frontier.specs.FrontierLaws.{still_some}
 use Rattle.labels_frontier.proofs.leave_frontier.Goals as goal
 
 pub decrement_degree-requires-2 : goal.decrement_degree-requires-2
 decrement_degree-requires-2 c = search (still_some, rules)
-
-pub returns : goal.returns
-returns c = search leave_frontier_is

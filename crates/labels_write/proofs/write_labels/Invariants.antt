@@ -1,11 +1,7 @@
 -- `labels_write::write_labels` meets its contract: triangle by triangle. Assumes nothing.
-use Rattle.std.proofs.Common.{length, ◌-◌}
 use Rattle.labels_tables.specs.Peeling.{peeling}
 use Rattle.labels_write.specs.Writing.{Writing}
 use Rattle.labels_write.proofs.write_labels.Given as goal
 
 abbrev pub invariant-loop-t : goal.invariant-loop-t
-invariant-loop-t l = Writing (peeling l.scratch) l.initial.labels l.labels l.t
-
-abbrev pub decreases-loop-t : goal.decreases-loop-t
-decreases-loop-t l = length l.initial.labels - l.t
+invariant-loop-t l = Writing (peeling l.scratch) l.labels l.t

@@ -1,13 +1,11 @@
 -- `maps_backward::circle` meets its contract: a total and three coordinates within the limit leave their difference room. Assumes nothing.
-use Rattle.int64.specs.Whole.{sizes}
-use Rattle.maps_limits.specs.Limits.{coordinate-size}
+use Rattle.std.proofs.Common.{arith}
+use Rattle.std.proofs.lemmas.Int.{ints}
+use Rattle.maps_limits.specs.Limits.{coordinate_parts}
 use Rattle.maps_backward.proofs.circle.Goals as goal
 
-pub minus-requires : goal.minus-requires
-minus-requires c = omega (coordinate-size _ c.requires.4, sizes)
+pub overflow_sub-result-3 : goal.overflow_sub-result-3
+overflow_sub-result-3 c = omega (arith, ints, coordinate_parts _ c.requires.4)
 
-pub minus-requires-2 : goal.minus-requires-2
-minus-requires-2 c = omega (coordinate-size _ c.requires.4, sizes)
-
-pub minus-requires-3 : goal.minus-requires-3
-minus-requires-3 c = omega (coordinate-size _ c.requires.4, sizes)
+pub returns : goal.returns
+returns c = omega (arith, ints, coordinate_parts _ c.requires.4)

@@ -1,7 +1,6 @@
 -- `maps_backward::weight_of` meets its contract: the darts from the corner with label 2 on, and the directions of their sides. Assumes nothing.
 use Rattle.std.proofs.Common.{arith, rules}
 use Rattle.labels_tables.specs.LabelledTables.{few, dart_room}
-use Rattle.int64.specs.Whole.{values}
 use Rattle.maps_backward.specs.Weights.{apex_in, darts_in, corner_room, weight_of-made}
 use Rattle.maps_backward.proofs.weight_of.Goals as goal
 
@@ -44,4 +43,4 @@ eight_cases-requires c =
     )
 
 pub returns : goal.returns
-returns c = search (weight_of-made, values)
+returns c = search (rules, weight_of-made)

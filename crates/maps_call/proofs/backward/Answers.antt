@@ -1,17 +1,22 @@
 -- `maps_call::backward` meets its contract: each way out is a law of the definition. Assumes nothing.
 use Rattle.std.proofs.Common.{arith}
+use Rattle.std.proofs.lemmas.Result.{err_from_is_err_and}
 use Rattle.lent_slices.specs.MapLengths.{map_lengths}
+use Rattle.mesh_answer.specs.Sizes.{size_told, size_some}
 use Rattle.maps_call.specs.CallOutcomes.{backward_early, backward_scratch}
 use Rattle.maps_call.proofs.backward.Goals as goal
 
-pub returns-then-number-ne0 : goal.returns-then-number-ne0
-returns-then-number-ne0 c =
+pub returns-in_err-check_sizes : goal.returns-in_err-check_sizes
+returns-in_err-check_sizes c =
     let a = c.args in
-    let g = backward_early a.n a.outer a.triangles.now a.coordinates.now a.weights.now a.scratch.now _ c.map_rows-number.ensures (search) in
-    record { answer = g.0; weights = g.1.0; scratch = g.1.1 }
+    let m = a.mesh.now in
+    let size = c.in_err-check_sizes.field-0.0 in
+    let p = err_from_is_err_and c.from_residual.result c.from_residual.ensures.1 in
+    let g = backward_early m.n m.outer m.triangles.now a.coordinates.now a.weights.now a.scratch.now _ c.in_err-check_sizes.ensures (size_some size) in
+    record { answer = rw (p.1, p.2, size_told size) g.0; weights = g.1.0; scratch = g.1.1 }
 
 pub run_backward-answer-requires : goal.run_backward-answer-requires
-run_backward-answer-requires c = search map_lengths
+run_backward-answer-requires c = map_lengths _ _ _ _ _ 0 c.in_ok-check_sizes.ensures (search)
 
 pub returns : goal.returns
 returns c =
@@ -19,5 +24,6 @@ returns c =
     record {
       answer = ran.ensures.answer;
       weights = ran.ensures.weights;
-      scratch = backward_scratch _ _ _ _ _ _ (map_lengths _ _ _ _ _ _ c.map_rows-number.ensures (search)) ran.new.scratch _ (omega arith) c.clear.ensures;
+      scratch =
+          backward_scratch _ _ _ _ _ _ (map_lengths _ _ _ _ _ 0 c.in_ok-check_sizes.ensures (search)) ran.new.scratch _ (omega arith) c.clear.ensures;
     }

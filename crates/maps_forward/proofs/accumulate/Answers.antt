@@ -1,6 +1,5 @@
 -- `maps_forward::accumulate` meets its contract, from those of `keep_and_store` and `hand_on`. Assumes nothing.
 use Rattle.std.proofs.Common.{arith}
-use Rattle.labels_tables.specs.Peeling.{peeling}
 use Rattle.maps_forward.specs.LoopLaws.{prev-word, prev_in, right_in, left_room, right_room, accumulate-made}
 use Rattle.maps_forward.proofs.accumulate.Goals as goal
 
@@ -24,4 +23,4 @@ hand_on-requires c =
     )
 
 pub returns : goal.returns
-returns c = search (peeling, accumulate-made)
+returns c = search accumulate-made

@@ -1,14 +1,18 @@
--- `maps_forward::write_thirds` meets its contract. The loop's invariant: the vertices passed have their third coordinate. Assumes nothing.
-use Rattle.std.proofs.Common.{arith, ◌∙◌}
-use Rattle.int64.specs.Whole.{held}
-use Rattle.maps_forward_model.specs.Thirds.{thirds_none, thirds_next}
+-- `maps_forward::write_thirds` meets its contract: each vertex passed has its third coordinate. Assumes nothing.
+use Rattle.std.proofs.Common.{arith, rules}
+use Rattle.std.proofs.lemmas.Int.{ints}
+use Rattle.definitions.specs.Backward.{coordinate}
+use Rattle.maps_forward_model.specs.Thirds.{thirds_next, thirds_small}
 use Rattle.maps_forward.specs.LoopLaws.{first-at}
 use Rattle.maps_forward.proofs.write_thirds.Goals as goal
 
-pub loop-v-init : goal.loop-v-init
-loop-v-init c = (omega arith, thirds_none _ _, held _ c.get-total.type_inv ∙ c.get-total.ensures ∙ first-at _ _)
+pub write_third-requires : goal.write_third-requires
+write_third-requires c =
+    let e = first-at c.args.coordinates.now c.args.v0 in
+    let total = c.requires.small 0 c.args.v0 (omega arith) (omega arith) in
+    let small = thirds_small c.requires c.loop-v.invariant in
+    (omega arith, omega (arith, ints), small 0 _ (omega arith) (omega arith), small 1 _ (omega arith) (omega arith))
 
 pub loop-v-preserved : goal.loop-v-preserved
-loop-v-preserved c =
-    let I = c.loop-v.invariant in
-    (omega arith, thirds_next _ _ _ _ _ I.1 (omega arith) c.write_third.ensures, I.2)
+unfolding coordinate
+loop-v-preserved c = search (rules, thirds_next)

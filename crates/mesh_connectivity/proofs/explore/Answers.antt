@@ -8,8 +8,8 @@ returns-then-place c = search explored_soon
 pub leave-place-requires : goal.leave-place-requires
 leave-place-requires c = search exploring_leaves
 
-pub loop-i-preserved : goal.loop-i-preserved
-loop-i-preserved c = search exploring_next
+pub loop-preserved : goal.loop-preserved
+loop-preserved c = search exploring_next
 
 pub returns : goal.returns
 returns c = search explored_all

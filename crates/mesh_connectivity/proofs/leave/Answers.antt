@@ -1,5 +1,8 @@
--- `mesh_connectivity::leave` meets its contract, from those of its steps. Assumes nothing.
-use Rattle.mesh_connectivity.specs.FloodFillLoops.{leaving_dart, leaving_prev, leaving_small, leaving_first, leaving_second, leaving_space, moved-leave}
+-- `mesh_connectivity::leave` meets its contract: its darts have words, and the triangles across have flags. Assumes nothing.
+use Rattle.std.proofs.Common.{arith}
+use Rattle.std.proofs.lemmas.Grind.{common_steps}
+use Rattle.mesh_connectivity.specs.FloodFillLoops.{leaving_dart, leaving_prev, leaving_small, leaving_first, leaving_second, leaving_space, stays}
+use Rattle.mesh_model.specs.FloodFill.{leave, leave_for, reach}
 use Rattle.mesh_connectivity.proofs.leave.Goals as goal
 
 pub turn-a-requires : goal.turn-a-requires
@@ -11,14 +14,15 @@ prev_dart-requires c = search leaving_small
 pub turn-b-requires : goal.turn-b-requires
 turn-b-requires c = search leaving_prev
 
-pub visit-p-requires : goal.visit-p-requires
-visit-p-requires c = search leaving_first
+pub visit-first-requires : goal.visit-first-requires
+visit-first-requires c = search leaving_first
 
-pub visit-q-requires : goal.visit-q-requires
-visit-q-requires c = search leaving_second
+pub visit-second-requires : goal.visit-second-requires
+visit-second-requires c = search leaving_second
 
 pub onward-requires : goal.onward-requires
 onward-requires c = search leaving_space
 
 pub returns : goal.returns
-returns c = search moved-leave
+unfolding leave leave_for reach
+returns c = grind (arith, common_steps, stays)

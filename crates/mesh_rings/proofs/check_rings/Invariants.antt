@@ -1,11 +1,7 @@
 -- `mesh_rings::check_rings` meets its contract. The loop's invariant: the vertices from v on find what all of them find. Assumes nothing.
-use Rattle.std.proofs.Common.{◌-◌}
 use Rattle.mesh_tables.specs.Incidence.{incidence}
 use Rattle.mesh_rings.specs.RingLoops.{Testing}
 use Rattle.mesh_rings.proofs.check_rings.Given as goal
 
 abbrev pub invariant-loop-v : goal.invariant-loop-v
 invariant-loop-v l = Testing (incidence l.s) l.n l.v
-
-abbrev pub decreases-loop-v : goal.decreases-loop-v
-decreases-loop-v l = l.n - l.v

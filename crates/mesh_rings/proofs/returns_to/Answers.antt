@@ -5,8 +5,8 @@ use Rattle.mesh_rings.proofs.returns_to.Goals as goal
 pub returns-then-d-h : goal.returns-then-d-h
 returns-then-d-h c = search rotating_back
 
-pub loop-i-preserved : goal.loop-i-preserved
-loop-i-preserved c = search rotating_next
+pub loop-preserved : goal.loop-preserved
+loop-preserved c = search rotating_next
 
 pub returns : goal.returns
 returns c = search rotating_none

@@ -2,8 +2,8 @@
 use Rattle.mesh_sides.specs.LoopInvariants.{marking_start, marking_dart, marking_beside, marking_next, marked_found, marked_none}
 use Rattle.mesh_sides.proofs.mark_outgoing.Goals as goal
 
-pub loop-i-init : goal.loop-i-init
-loop-i-init c = search marking_start
+pub loop-init : goal.loop-init
+loop-init c = search marking_start
 
 pub mark_neighbour-requires : goal.mark_neighbour-requires
 mark_neighbour-requires c = search marking_beside
@@ -14,8 +14,8 @@ returns-then-mark_neighbour c = search marked_found
 pub turn-e-requires : goal.turn-e-requires
 turn-e-requires c = search marking_dart
 
-pub loop-i-preserved : goal.loop-i-preserved
-loop-i-preserved c = search marking_next
+pub loop-preserved : goal.loop-preserved
+loop-preserved c = search marking_next
 
 pub returns : goal.returns
 returns c = search marked_none

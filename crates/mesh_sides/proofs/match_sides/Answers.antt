@@ -2,6 +2,7 @@
 use Rattle.mesh_sides.specs.LoopInvariants.{matching_start, matching_at, matching_twice, marked_at, tied_ready, tied_round, matching_next}
 use Rattle.mesh_sides.specs.LoopInvariants.{matching_later, matching_lacks, matching_none}
 use Rattle.mesh_sides.proofs.match_sides.Goals as goal
+use Rattle.mesh_sides.proofs.match_sides.Goals.{then-not-has_ring, else-not-has_ring}
 
 pub loop-v-init : goal.loop-v-init
 loop-v-init c = search matching_start
@@ -28,15 +29,20 @@ returns-then-duplicate_side c = search matching_later
 pub returns-then-match_incoming : goal.returns-then-match_incoming
 returns-then-match_incoming c = search matching_lacks
 
-pub ring_row-row-requires : goal.ring_row-row-requires
-ring_row-row-requires c =
+pub has_ring-requires : goal.has_ring-requires
+has_ring-requires c =
     tied_round _ _ _ _ _ c.loop-v-test.true c.loop-v.invariant _ _ c.mark_outgoing.ensures c.if-mark_outgoing.false
     c.mark_outgoing.auto.s _ _ c.match_incoming.ensures c.requires c.match_incoming.auto.s
 
 pub loop-v-preserved : goal.loop-v-preserved
 loop-v-preserved c =
+    let on =
     matching_next _ _ _ _ _ c.loop-v-test.true c.loop-v.invariant _ _ c.mark_outgoing.ensures c.if-mark_outgoing.false
-    c.mark_outgoing.auto.s _ _ c.match_incoming.ensures c.if-match_incoming.false c.match_incoming.auto.s _ c.ring_row-row.ensures
+    c.mark_outgoing.auto.s _ _ c.match_incoming.ensures c.if-match_incoming.false c.match_incoming.auto.s _ c.has_ring.ensures in
+    elim c.if-not-has_ring.branch [
+      | then-not-has_ring w ↦ rw w.rings-is (rw w.if-not-has_ring.true at on)
+      | else-not-has_ring w ↦ rw w.rings-is (rw w.if-not-has_ring.false at on)
+    ]
 
 pub returns : goal.returns
 returns c = search matching_none

@@ -1,10 +1,9 @@
--- `repair_area::raise_of` meets its contract, from those of `deficit`, `last_deficit` and `greater`. Assumes nothing.
-use Rattle.int64.specs.Whole.{values, sizes}
-use Rattle.repair_area.specs.Areas.{raise_of, max_is, max-size}
+-- `repair_area::raise_of` meets its contract, from that of `raise`. Assumes nothing.
+use Rattle.std.proofs.Common.{rules}
+use Rattle.int64.specs.Whole.{held_is}
+use Rattle.repair_area.specs.Areas.{raise_of, deficit_of, last_deficit_of, excess_of, sum_of}
 use Rattle.repair_area.proofs.raise_of.Goals as goal
 
-pub plus-requires : goal.plus-requires
-plus-requires c = omega (max-size, sizes)
-
-pub returns : goal.returns
-returns c = record { is = unfold raise_of in search (max_is, values); small = omega (max-size, sizes) }
+pub returns-clause-is : goal.returns-clause-is
+unfolding raise_of deficit_of last_deficit_of excess_of sum_of
+returns-clause-is c = search (held_is, rules)

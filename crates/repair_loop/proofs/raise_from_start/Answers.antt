@@ -1,5 +1,5 @@
 -- `repair_loop::raise_from_start` meets its contract: the loop is entered at once, or with the first raise. Assumes nothing.
-use Rattle.std.proofs.Common.{sym, ◌∙◌}
+use Rattle.std.proofs.Common.{◌∙◌}
 use Rattle.int64.specs.Whole.{held}
 use Rattle.repair_loop.specs.AllRaises.{total-there, straight_pre, straight, first_due}
 use Rattle.repair_loop.proofs.raise_from_start.Goals as goal
@@ -10,14 +10,14 @@ coordinate_at-total-requires c = search total-there
 pub raise_all-requires : goal.raise_all-requires
 raise_all-requires c =
     straight_pre _ _ _ _ _ c.requires.0 _ c.requires.1 _ (held _ c.coordinate_at-total.type_inv ∙ c.coordinate_at-total.ensures)
-    (sym c.at_most.ensures ∙ c.if-at_most.true)
+    c.if-total-ge1.true
 
 pub make_first_raise-requires : goal.make_first_raise-requires
 make_first_raise-requires c =
     first_due _ _ _ _ _ c.requires.0 _ c.requires.1 _ (held _ c.coordinate_at-total.type_inv ∙ c.coordinate_at-total.ensures)
-    (sym c.at_most.ensures ∙ c.if-at_most.false)
+    c.if-total-ge1.false
 
-pub returns-then-at_most : goal.returns-then-at_most
-returns-then-at_most c =
+pub returns-then-total-ge1 : goal.returns-then-total-ge1
+returns-then-total-ge1 c =
     straight _ _ _ _ _ c.requires.0 _ c.requires.1 _ (held _ c.coordinate_at-total.type_inv ∙ c.coordinate_at-total.ensures)
-    (sym c.at_most.ensures ∙ c.if-at_most.true) _ _ _ c.raise_all.ensures
+    c.if-total-ge1.true _ _ _ c.raise_all.ensures

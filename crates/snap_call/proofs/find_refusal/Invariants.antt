@@ -1,10 +1,6 @@
--- `snap_call::find_refusal` meets its contract. The invariant: the shares behind have passed. The measure is the shares that are left. Assumes nothing.
-use Rattle.std.proofs.Common.{length, ◌-◌}
+-- `snap_call::find_refusal` meets its contract. The invariant: the shares behind have passed. Assumes nothing.
 use Rattle.snap_call.specs.LoopLaws.{Looked}
 use Rattle.snap_call.proofs.find_refusal.Given as goal
 
-abbrev pub invariant-loop-i : goal.invariant-loop-i
-invariant-loop-i l = Looked l.shares l.i
-
-abbrev pub decreases-loop-i : goal.decreases-loop-i
-decreases-loop-i l = length l.shares - l.i
+abbrev pub invariant-loop-share : goal.invariant-loop-share
+invariant-loop-share l = Looked l.shares l.share-index

@@ -7,6 +7,6 @@ pub returns-then-share : goal.returns-then-share
 unfolding inside of_bits neg
 returns-then-share c = cc
 
-pub returns : goal.returns
+pub returns-else-share : goal.returns-else-share
 unfolding inside of_bits neg
-returns c = cc
+returns-else-share c = cc

@@ -1,5 +1,5 @@
--- `snap_call::write_points` meets its contract. The invariant: the coordinates of the points behind are written, and belong before those of the rest. The
--- measure is the points that are left. Assumes nothing.
+-- `snap_call::write_points` meets its contract. The invariant: the coordinates of the points behind are written, and belong before those of the rest.
+-- Assumes nothing.
 use Rattle.std.proofs.Common.{rules}
 use Rattle.snap_call.specs.LoopLaws.{written_none, x_passes, y_passes, written_more, written_all}
 use Rattle.snap_call.proofs.write_points.Goals as goal

@@ -1,13 +1,13 @@
--- `text_format::digit_count` meets its contract. The loop's invariant, `Counted`: the digits counted and those of the number that is left make up one more
--- than there are. Assumes nothing.
-use Rattle.text_format.specs.DigitLoops.{counted_none, counted_more, counted_all, counted_few}
+-- `text_format::digit_count` meets its contract: one more than the logarithm, and 1 for 0. Assumes nothing.
+use Rattle.std.proofs.Common.{sym, arith}
+use Rattle.text_model.specs.Numbers.{count-one}
+use Rattle.text_format.specs.DigitLoops.{count-log}
 use Rattle.text_format.proofs.digit_count.Goals as goal
 
-pub loop-m-init : goal.loop-m-init
-loop-m-init c = search counted_none
+pub returns-in-Some : goal.returns-in-Some
+returns-in-Some c =
+    let e = c.in-Some.ensures in
+    (sym (count-log c.in-Some.k c.args.n e.power_le e.next_power_gt), omega (arith, e.bound))
 
-pub loop-m-preserved : goal.loop-m-preserved
-loop-m-preserved c = search counted_more
-
-pub returns : goal.returns
-returns c = search (counted_all, counted_few)
+pub returns-in-None : goal.returns-in-None
+returns-in-None c = (sym (count-one c.args.n (omega (arith, c.in-None.ensures.none))), omega arith)

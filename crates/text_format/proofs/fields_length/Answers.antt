@@ -2,8 +2,8 @@
 use Rattle.text_format.specs.LineLoops.{counts_none, counts_more}
 use Rattle.text_format.proofs.fields_length.Goals as goal
 
-pub loop-k-init : goal.loop-k-init
-loop-k-init c = search counts_none
+pub loop-x-init : goal.loop-x-init
+loop-x-init c = search counts_none
 
-pub loop-k-preserved : goal.loop-k-preserved
-loop-k-preserved c = search counts_more
+pub loop-x-preserved : goal.loop-x-preserved
+loop-x-preserved c = search counts_more

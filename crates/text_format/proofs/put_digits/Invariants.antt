@@ -1,11 +1,7 @@
 -- `text_format::put_digits` meets its contract. The loop's invariant, `Filled`: the digits from place k on are written, and those before it stand for the
 -- number that is left. Assumes nothing.
-use Rattle.std.proofs.Common.{length, ◌≡◌}
 use Rattle.text_format.specs.DigitLoops.{Filled}
 use Rattle.text_format.proofs.put_digits.Given as goal
 
 abbrev pub invariant-loop-k : goal.invariant-loop-k
-invariant-loop-k l = (length l.out ≡ length l.initial.out) × Filled l.n l.count l.initial.out l.out l.m l.k
-
-abbrev pub decreases-loop-k : goal.decreases-loop-k
-decreases-loop-k l = l.k
+invariant-loop-k l = Filled l.n l.count l.initial.out l.out l.m l.k

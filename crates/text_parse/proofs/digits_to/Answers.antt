@@ -2,18 +2,20 @@
 -- them all gives. Assumes nothing.
 use Rattle.text_parse.specs.ByteLoops.{below-digits, above-digits, past_most, scanned-more, scanned-all}
 use Rattle.text_parse.proofs.digits_to.Goals as goal
+use Rattle.text_parse.proofs.digits_to.Goals.{then-b-lt48-via-then-b-lt48, then-b-lt48-via-else-b-lt48+then-b-gt57}
 
 pub returns-then-b-lt48 : goal.returns-then-b-lt48
-returns-then-b-lt48 c = search below-digits
+returns-then-b-lt48 c =
+    elim c.then-b-lt48.branch [
+      | then-b-lt48-via-then-b-lt48 w ↦ search below-digits
+      | then-b-lt48-via-else-b-lt48+then-b-gt57 w ↦ search above-digits
+    ]
 
-pub returns-then-b-gt57 : goal.returns-then-b-gt57
-returns-then-b-gt57 c = search above-digits
+pub returns-then-from-v : goal.returns-then-from-v
+returns-then-from-v c = search past_most
 
-pub returns-then-top-next : goal.returns-then-top-next
-returns-then-top-next c = search past_most
-
-pub loop-i-preserved : goal.loop-i-preserved
-loop-i-preserved c = search scanned-more
+pub loop-b-preserved : goal.loop-b-preserved
+loop-b-preserved c = search scanned-more
 
 pub returns : goal.returns
 returns c = search scanned-all

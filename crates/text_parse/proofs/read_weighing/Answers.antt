@@ -1,14 +1,11 @@
 -- `text_parse::read_weighing` meets its contract. The word up to a tab, and then one weight. Assumes nothing.
+use Rattle.std.proofs.Common.{sym, ◌∙◌}
 use Rattle.text_model.specs.Layouts.{weight-begins, weight-last}
-use Rattle.text_parse.specs.NumberAnswers.{as_weight}
-use Rattle.text_parse.specs.LineSteps.{word_alone, word-other, word_then}
+use Rattle.text_parse.specs.LineSteps.{word_none, word_some}
 use Rattle.text_parse.proofs.read_weighing.Goals as goal
 
-pub returns-then-line-k : goal.returns-then-line-k
-returns-then-line-k c = search (word_alone as_weight weight-begins)
-
-pub returns-then-same : goal.returns-then-same
-returns-then-same c = search (word_then as_weight weight-begins, weight-last)
+pub returns-in_err-after_word : goal.returns-in_err-after_word
+returns-in_err-after_word c = rw c.from_residual.ensures (sym (word_none weight-begins _ c.in_err-after_word.ensures))
 
 pub returns : goal.returns
-returns c = search (word-other as_weight weight-begins)
+returns c = c.read_weight.ensures ∙ sym (word_some weight-begins _ _ c.in_ok-after_word.ensures ∙ weight-last _)

@@ -1,7 +1,0 @@
--- `repair_preorder::store_range` meets its contract, from those of its calls. Assumes nothing.
-use Rattle.scratch_tables.specs.Tables.{tables_of}
-use Rattle.repair_preorder.specs.LoopInvariants.{store_range_is}
-use Rattle.repair_preorder.proofs.store_range.Goals as goal
-
-pub returns : goal.returns
-returns c = search (tables_of, store_range_is)
