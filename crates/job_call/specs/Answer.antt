@@ -1,6 +1,7 @@
 -- The answer of a job as document 01 states it. Definitions only.
-use Rattle.std.specs.Prelude.{ℕ, ◌≤◌, ◌≡◌, List, Result, Ok, Err}
+use Rattle.std.specs.Prelude.{ℕ, ◌≤◌, ◌≡◌, List, ℤ, Result, Ok, Err}
 use Rattle.definitions.specs.Answers.{Answer, done, refused, numbered, line_broken, number, Refusal as Told}
+use Rattle.definitions.specs.Job.{Job, repair_job}
 use Rattle.mesh_answer.specs.declared.Refusal.{Refusal}
 use Rattle.mesh_answer.specs.Answer.{to_refusal}
 use Rattle.text_read_job.specs.declared.ReadError.{ReadError}
@@ -40,6 +41,24 @@ NearLine ListingLength = Unit {0}
 abbrev pub Near : Result ℕ JobRefusal → Type 0
 Near (Ok k) = Unit {0}
 Near (Err why) = NearLine why
+
+-- What a refusal is, beyond what is told of it: where the text gives no job, the text's own; where it gives one, that of the job's repair with what it
+-- carries, or the listing's length.
+abbrev pub Exact : Answer Job → JobRefusal → Type 0
+Exact (refused why) (Text read) = job_to_refusal (Text read) ≡ why
+Exact (refused why) (Repair stopped) = ⊥
+Exact (refused why) ListingLength = ⊥
+Exact (done job) (Text read) = ⊥
+Exact (done job) (Repair stopped) = (repair_job job).answer ≡ refused (to_refusal stopped)
+Exact (done job) ListingLength = Unit {0}
+
+abbrev pub ExactEnd : Answer Job → Result ℕ JobRefusal → Type 0
+ExactEnd a (Ok k) = Unit {0}
+ExactEnd a (Err why) = Exact a why
+
+-- the job on n vertices with these triangles and weights
+abbrev pub job_of : ℕ → List ℕ → List ℤ → Job
+job_of n ts ws = record { n = n; triangles = ts; weights = ws }
 
 -- what an answer and a buffer say of a listing or a refusal
 pub record Ends (a : Answer (List ℕ)) (before after : List ℕ) (r : Result ℕ JobRefusal) : Type 0 where

@@ -29,7 +29,7 @@ use Rattle.mesh_answer.specs.declared.Refusal.TheVariants.{StrayVertex, LowAbove
 use Rattle.job_call.specs.Model.{ran, Fitting, outcome, host_number}
 use Rattle.job_call.specs.declared.JobRefusal.{JobRefusal}
 use Rattle.job_call.specs.declared.JobRefusal.TheVariants.{Text, Repair, ListingLength}
-use Rattle.job_call.specs.Answer.{job_to_refusal, job_to_answer, of_read, NearLine, Near, Ends}
+use Rattle.job_call.specs.Answer.{job_to_refusal, job_to_answer, of_read, of_repair, NearLine, Near, Exact, ExactEnd, job_of, Ends}
 
 -- an end, clause by clause
 pub ended : {a : Answer (List ℕ)} {before after : List ℕ} {r : Result ℕ JobRefusal} → Ends a before after r →
@@ -56,6 +56,15 @@ module _ (text : List ℕ) where
     run-read (Line l) e before =
         let q = sym read ∙ ap (λ x. answer_of x vs xs) e in
         rw (run-refused (line_broken l) q) (record { answer = refl; buffer = refl; line = rw q at (job_fits text) })
+
+    pub exact-read : (why : ReadError) → r ≡ Err why → Exact (read_job text) (Text why)
+    exact-read TooLong e = rw (sym read ∙ ap (λ x. answer_of x vs xs) e) refl
+    exact-read Size e = rw (sym read ∙ ap (λ x. answer_of x vs xs) e) refl
+    exact-read (Line l) e = rw (sym read ∙ ap (λ x. answer_of x vs xs) e) refl
+
+    pub exact-finish : (n : ℕ) → r ≡ Ok n → (a : Result ℕ JobRefusal)
+        → ExactEnd (done (job_of n (take (3 * (2 * n - 4)) vs) (take (2 * n - 5) xs))) a → ExactEnd (read_job text) a
+    exact-finish n e a h = rw (sym read ∙ ap (λ x. answer_of x vs xs) e) h
 
     pub run-finish : (n : ℕ) → r ≡ Ok n → (before after : List ℕ) (a : Result ℕ JobRefusal)
         → Ends (ran n (take (3 * (2 * n - 4)) vs) (take (2 * n - 5) xs)) before after a → Ends (run_job text) before after a
@@ -249,6 +258,11 @@ module _ (n : ℕ) (ts : List ℕ) (ws : List ℤ) where
     finish-refused why e before =
         let is = ran-refused (to_refusal why) (answer_is (refused (to_refusal why)) (ap to_answer e)) in
         rw (is ∙ ap refused (told_alone why)) (record { answer = refl; buffer = refl; line = tt })
+
+    -- the refusal of the job's repair, with what it carries
+    pub exact-refused : (why : MeshRefusal) → r ≡ Err why → Exact (done (job_of n ts ws)) (Repair why)
+    unfolding repair_job
+    exact-refused why e = answer_is (refused (to_refusal why)) (ap to_answer e)
 
 -- ---- packmap's buffer always has room: a job never ends with a listing of more than 16,384 bytes
 

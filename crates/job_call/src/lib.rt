@@ -5,9 +5,9 @@ ghost use Rattle.std.specs.Prelude.{◌≡◌, ◌<◌};
 ghost use Rattle.definitions.specs.Answers.{done, number};
 ghost use Rattle.definitions.specs.Mesh.{org};
 ghost use Rattle.definitions.specs.Backward.{coordinate};
-ghost use Rattle.definitions.specs.Job.{listing as listing_of, run_job, line_of, host_call};
+ghost use Rattle.definitions.specs.Job.{Job, listing as listing_of, read_job, run_job, line_of, host_call};
 ghost use Rattle.job_call.specs.Model.{ran, Fitting, outcome};
-ghost use Rattle.job_call.specs.Answer.{Ends, Near, job_to_answer, job_to_refusal, of_read, of_repair};
+ghost use Rattle.job_call.specs.Answer.{Ends, Near, ExactEnd, job_of, job_to_answer, job_to_refusal, of_read, of_repair};
 
 use lent_slices::SCRATCH_WORDS;
 use mesh_answer::Refusal;
@@ -91,8 +91,9 @@ fn list(
     listing: &mut [u8],
 ) -> Result<usize, JobRefusal>
     requires { (n < 65536) × (raises < 65536) }
-    ensures { Ends (done (listing_of n (coordinate coordinates.now 0 (org triangles.now 0)) raises coordinates.now))
+    ensures ends { Ends (done (listing_of n (coordinate coordinates.now 0 (org triangles.now 0)) raises coordinates.now))
         listing.old listing.new result }
+    ensures exact { (job : Job) → ExactEnd (done job) result }
 {
     let total = text_write_listing::coordinate_of(coordinates, 0, first_corner(triangles));
     text_write_listing::write_listing(n, total, raises, coordinates, listing).ok_or(
@@ -108,7 +109,8 @@ fn finish(
     listing: &mut [u8],
 ) -> Result<usize, JobRefusal>
     requires { Fitting n triangles.now weights.old }
-    ensures { Ends (ran n triangles.now weights.old) listing.old listing.new result }
+    ensures ends { Ends (ran n triangles.now weights.old) listing.old listing.new result }
+    ensures exact { ExactEnd (done (job_of n triangles.now weights.old)) result }
 {
     let mut coordinates = [0; COORDINATES];
     let mut scratch = [0; SCRATCH];
@@ -123,11 +125,12 @@ fn finish(
 }
 
 // The whole job: the listing's length. The listing stands at the front of the buffer, and bytes past it keep what they held; a refused call leaves all of it
-// as it was.
+// as it was. A refusal is the text's or the repair's own, with what it carries: its number and its line are all that a text is told.
 pub fn run(text: &[u8], listing: &mut [u8]) -> Result<usize, JobRefusal>
     ensures answer { job_to_answer result ≡ (outcome (run_job text.now) listing.old).answer }
     ensures listing { listing.new ≡ (outcome (run_job text.now) listing.old).buffer }
     ensures line { Near result }
+    ensures exact { ExactEnd (read_job text.now) result }
 {
     let mut triangles = [0; TRIANGLES];
     let mut weights = [0; WEIGHTS];

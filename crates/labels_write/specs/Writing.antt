@@ -11,7 +11,6 @@ use Rattle.definitions.specs.Mesh.{tri}
 use Rattle.scratch_tables.specs.Tables.{dart_in}
 use Rattle.labels_tables.specs.Peeling.{Peeling}
 use Rattle.labels_tables.specs.LabelledTables.{label_in, inner-label}
-use Rattle.labels_write.specs.declared.TheConstants.{LABELS}
 
 -- the label of corner i of a triangle of which corner k has label 2
 unfoldable pub label_of_corner : ℕ → ℕ → ℕ
@@ -27,30 +26,14 @@ pub record Readable (p : Peeling) (words t : ℕ) : Type 0 where
 unfoldable pub with_triangle : ℕ → ℕ → List ℕ → List ℕ
 with_triangle k t ls = set (set (set ls (3 * t) (label_of_corner k 0)) (3 * t + 1) (label_of_corner k 1)) (3 * t + 2) (label_of_corner k 2)
 
--- the code's table has them, and three labels side by side are three stores
-row_is : (k : ℕ) → k < 3 → get_or LABELS k [] ≡ label_of_corner k 0 ∷ label_of_corner k 1 ∷ label_of_corner k 2 ∷ []
-unfolding label_of_corner
-row_is zero h = refl
-row_is (suc zero) h = refl
-row_is (suc (suc zero)) h = refl
-row_is (suc (suc (suc k))) h = absurd (omega arith)
-
-three_set : (i a b c : ℕ) (ls : List ℕ) → i + 3 ≤ length ls → put_mid i 3 ls (a ∷ b ∷ c ∷ []) ≡ set (set (set ls i a) (suc i) b) (suc (suc i)) c
+-- three labels side by side are three stores
+pub three_set : (i a b c : ℕ) (ls : List ℕ) → i + 3 ≤ length ls → put_mid i 3 ls (a ∷ b ∷ c ∷ []) ≡ set (set (set ls i a) (suc i) b) (suc (suc i)) c
 three_set zero a b c (x ∷ y ∷ z ∷ ls) h = refl
 three_set zero a b c [] h = absurd (omega arith)
 three_set zero a b c (x ∷ []) h = absurd (omega arith)
 three_set zero a b c (x ∷ y ∷ []) h = absurd (omega arith)
 three_set (suc i) a b c (x ∷ ls) h = ap (◌∷◌ x) (three_set i a b c ls (omega arith))
 three_set (suc i) a b c [] h = absurd (omega arith)
-
--- as the code stores them: w is the length of the range
-pub with_triangle_lem : (k k₀ t w : ℕ) (ls ys : List ℕ) → k ≡ k₀ → k₀ < 3 → 3 * t + 3 ≤ length ls → w ≡ 3 → ys ≡ get_or LABELS k []
-    → put_mid (3 * t) w ls ys ≡ with_triangle k₀ t ls
-unfolding with_triangle
-with_triangle_lem k k₀ t w ls ys e small room ew ey =
-    let i : 3 * t + 1 ≡ suc (3 * t) = omega arith in
-    let j : 3 * t + 2 ≡ suc (suc (3 * t)) = omega arith in
-    rw (i, j, ew, ey, e, row_is k₀ small) (three_set (3 * t) _ _ _ ls room)
 
 module _ (k t : ℕ) (ls : List ℕ) (room : 3 * t + 3 ≤ length ls) where
   abbrev one : List ℕ

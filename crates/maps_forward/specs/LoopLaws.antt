@@ -195,6 +195,10 @@ module _ (s : List ℤ) (v left right l r : ℕ) (el : left ≡ (peeling s).left
     unfolding propagate
     propagate-made bs₂ e₂ = rw (e₂, b1_made, eo, er)
 
+-- vertices come back from the last one that left to the first: one and the same place of the order, counted from its end in two ways
+pub propagate_index : (n k : ℕ) (t : Peeling) → k + 2 < n → t.order (n - 3 - k) ≡ t.order (n - 2 - suc k)
+propagate_index n k t h = let e : n - 3 - k ≡ n - 2 - suc k = omega arith in ap t.order e
+
 -- ---- the whole, call by call: each asks what the theory gives of the list that it is handed
 
 module _ {n : ℕ} {ts ls : List ℕ} {scratch : List ℤ} (P : Peeled n ts ls scratch) (ws : List ℤ) (len : length ws ≡ weights_length n)

@@ -47,7 +47,8 @@ fn store_weight(weights: &[i64], coordinates: &mut [i64], scratch: &[i64], g: us
         store_weight (peeling scratch.now).origin weights.now g coordinates.old }
 {
     let u = origin(scratch, q);
-    coordinates[3 * u + 1] = weights[g / 3 - 1];
+    let w = weights[g / 3 - 1];
+    coordinates[3 * u + 1] = w;
 }
 
 // all of a fan, from one dart on up to the one whose previous dart is `stop`

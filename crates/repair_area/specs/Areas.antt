@@ -158,7 +158,7 @@ module _ (a b : ℤ) (ha : nat_abs a ≤ limit) (hb : nat_abs b ≤ limit) where
   difference-bits = difference_is a b a b limit limit ha hb (omega arith) refl refl
 
 module _ (a b c d : ℤ) (ha : nat_abs a ≤ limit) (hb : nat_abs b ≤ limit) (hc : nat_abs c ≤ limit) (hd : nat_abs d ≤ limit) where
-  product-size : nat_abs ((a -ℤ b) *ℤ (c -ℤ d)) ≤ 4_611_686_009_837_453_316
+  pub product-size : nat_abs ((a -ℤ b) *ℤ (c -ℤ d)) ≤ 4_611_686_009_837_453_316
   product-size =
       omega (arith, abs_times (a -ℤ b) (c -ℤ d), mul-le-mul (difference-size a b ha hb) (difference-size c d hc hd))
 
@@ -168,7 +168,7 @@ module _ (a b c d : ℤ) (ha : nat_abs a ≤ limit) (hb : nat_abs b ≤ limit) (
   pub product_bits_fit : SFits w64 (stored (stored a -ℤ stored b) *ℤ stored (stored c -ℤ stored d))
   product_bits_fit = rw (difference-bits a b ha hb, difference-bits c d hc hd) product_fits
 
-  product-bits : stored (stored (stored a -ℤ stored b) *ℤ stored (stored c -ℤ stored d)) ≡ (a -ℤ b) *ℤ (c -ℤ d)
+  pub product-bits : stored (stored (stored a -ℤ stored b) *ℤ stored (stored c -ℤ stored d)) ≡ (a -ℤ b) *ℤ (c -ℤ d)
   product-bits = rw (difference-bits a b ha hb, difference-bits c d hc hd) (to_z-of_z {w = w64} product_fits)
 
 -- the area number of three points within the limit

@@ -26,7 +26,10 @@ fn run_repair(
     ensures { Given mesh.now.n mesh.now.outer mesh.now.triangles.now weights.old coordinates.old scratch.old (to_answer result)
         weights.new coordinates.new }
 {
-    label_mesh(mesh, scratch)?;
+    // Taken apart by hand, and not by `?`: the edit `vertex_lost` puts another refusal here.
+    if let Err(why) = label_mesh(mesh, scratch) {
+        return Err(why);
+    }
     if maps_limits::past_limit(weights) {
         return Err(Refusal::WeightLimit);
     }

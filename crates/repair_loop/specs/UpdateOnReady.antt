@@ -16,7 +16,7 @@ use Rattle.repair_update.specs.WalkLoop.{UpdatePre, WalkMoved}
 
 module _ (n : ℕ) (ts ls : List ℕ) (s : List ℤ) (Y : Ready n ts ls s) (room : 10 * n ≤ length s) (bs : List ℤ) (long : length bs ≡ 3 * n)
     (within : row10 bs ≡ false) where
-  corners_in_lem : (t : ℕ) → 0 < t → t < 2 * n - 4 → CornersIn s bs t
+  pub corners_in_lem : (t : ℕ) → 0 < t → t < 2 * n - 4 → CornersIn s bs t
   corners_in_lem t h k =
       let c = corners_low n ts ls s Y t h k in
       record {

@@ -129,6 +129,9 @@ fn make_first_raise(
     raise_all(n, weights, coordinates, scratch, tried, 1)
 }
 
+// The least total with which no first raise is due.
+const LEAST_TOTAL: i64 = 1;
+
 // All raises. The total is coordinate 0 of v0.
 fn raise_from_start(
     n: usize,
@@ -144,7 +147,7 @@ fn raise_from_start(
         Halts n ts ls weights.old weights.new coordinates.new result }
 {
     let total = maps_limits::coordinate_at(coordinates, 0, v0);
-    if 1 <= total {
+    if LEAST_TOTAL <= total {
         raise_all(n, weights, coordinates, scratch, sum, 0)
     } else {
         make_first_raise(n, weights, coordinates, scratch, sum, total)

@@ -32,7 +32,7 @@ pub scale_bound : (scale r : ℕ) → r ≡ effective_scale default_scale scale 
 scale_bound scale r e h = rw e (scale_most default_scale scale (omega arith) (sym h))
 
 -- 2 ^ r as the code makes it
-power : (r : ℕ) → r < 64 → 1 * 2 ^ r % 2 ^ 64 ≡ 2 ^ r
+pub power : (r : ℕ) → r < 64 → 1 * 2 ^ r % 2 ^ 64 ≡ 2 ^ r
 power r h = ap (λ (x : ℕ). x % 2 ^ 64) (one-mul (2 ^ r)) ∙ mod-eq_of_lt (pow-lt h)
 
 -- ---- the nearest whole number

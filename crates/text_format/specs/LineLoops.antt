@@ -39,7 +39,7 @@ next-length : (xs : List ℤ) (k : ℕ) → k < length xs →
     length (tabbed (take (k + 1) xs)) ≡ length (tabbed (take k xs)) + suc (length (decimal (get_or xs k (pos 0))))
 next-length xs k h = rw (tabbed-next xs k h, length-append (tabbed (take k xs)) (TAB ∷ decimal (get_or xs k (pos 0))))
 
-field_room : (xs : List ℤ) (k : ℕ) → k < length xs →
+pub field_room : (xs : List ℤ) (k : ℕ) → k < length xs →
     length (tabbed (take k xs)) + suc (length (decimal (get_or xs k (pos 0)))) ≤ length (tabbed xs)
 field_room xs k h = omega (arith, tabbed-part xs (k + 1), next-length xs k h)
 

@@ -1,6 +1,6 @@
 -- Steps through a line, in the shape in which the code hands them over: results of calls, and the parts that were lent. Assumes nothing.
 use Rattle.std.specs.Prelude.{ℕ, suc, ◌+◌, ◌≤◌, ◌<◌, ◌≡◌, ◌==◌, refl, Bool, true, false, ◌&&◌, ltb, cond, List, [], ◌∷◌, eqb, length, take, drop}
-use Rattle.std.specs.Prelude.{position, None, Some}
+use Rattle.std.specs.Prelude.{position, None, Some, unwrap_or, Option as Maybe}
 use Rattle.std.proofs.Common.{sym, ap, ◌∙◌, arith, lt-ltb, le-ltb, ltb-true, ltb-false}
 use Rattle.std.proofs.lemmas.Grind.{common_steps}
 use Rattle.std.proofs.lemmas.List.Recursion.{is_position_or_len}
@@ -8,7 +8,7 @@ use Rattle.std.proofs.Math.Option.{Option, none, some}
 use Rattle.std.specs.List.{position_or_len}
 use Rattle.std.specs.Str.{bytes_eq}
 use Rattle.definitions.specs.Job.{TAB, same_bytes, fields, vertex_field, three}
-use Rattle.text_model.specs.Positions.{index_of, fields-more, fields-last}
+use Rattle.text_model.specs.Positions.{index_of, index_of-le, fields-more, fields-last}
 use Rattle.text_model.specs.Layouts.{Begins, no_tab, other_word, the_word, corners_of, last-field, vertex_tab}
 
 -- ---- the place of a byte
@@ -23,6 +23,9 @@ index_is b = is_position_or_len (index_of b) (λ x. x == b) refl more
 module _ (b : ℕ) (s : List ℕ) where
   pub place-none : None ≡ position (λ x. x == b) s → length s ≤ index_of b s
   place-none e = let i = index_is b s in grind (arith, common_steps)
+
+  pub place_or_length : (r : Maybe ℕ) → r ≡ position (λ x. x == b) s → unwrap_or r (length s) ≡ index_of b s
+  place_or_length r e = let i = index_is b s in let l = index_of-le b s in grind (arith, common_steps)
 
   pub place_some : (k : ℕ) → Some k ≡ position (λ x. x == b) s → (k < length s) × (k ≡ index_of b s)
   place_some k e = let i = index_is b s in grind (arith, common_steps)

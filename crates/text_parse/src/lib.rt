@@ -65,8 +65,15 @@ pub fn read_weight(s: &[u8]) -> Option<i64>
 // The fixed bytes that begin a job text and a listing.
 pub const PACK_MAP: [u8; 8] = *b"pack-map";
 
-// The place of the first b.
-fn find(s: &[u8], b: u8) -> Option<usize>
+// The first bytes, at most `count` of them.
+pub fn front(s: &[u8], count: usize) -> &[u8]
+    ensures { result.now ≡ take count s.now }
+{
+    &s[..count.min(s.len())]
+}
+
+// The place of the first b. By `place_or_length` it is `index_of`, which is the length where there is none.
+pub fn find(s: &[u8], b: u8) -> Option<usize>
     ensures { result ≡ position (λ x. x == b) s.now }
 {
     s.iter().position(|&x| x == b)
@@ -78,7 +85,7 @@ pub fn split_once(s: &[u8], b: u8) -> Option<(&[u8], &[u8])>
         (λ p. (k < length s.now) × (p.0.now ≡ take k s.now) × (p.1.now ≡ drop (suc k) s.now)) }
 {
     let k = find(s, b)?;
-    Some((&s[..k], &s[k + 1..]))
+    Some((front(s, k), &s[k + 1..]))
 }
 
 // What follows the first field, where that is the word.

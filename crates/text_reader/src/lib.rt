@@ -11,12 +11,19 @@ pub struct Reader<'a> {
     pub at: usize,
 }
 
+// A reader whose next line begins at `at`.
+pub fn begin<'a>(text: &'a [u8], at: usize) -> Reader<'a>
+    ensures { (result.text ≡ text.entry) × (result.at ≡ at) }
+{
+    Reader { text, at }
+}
+
 impl<'a> Reader<'a> {
     // A reader whose next line is the first.
     pub fn new(text: &'a [u8]) -> Self
         ensures { (result.text ≡ text.entry) × (result.at ≡ 0) }
     {
-        Reader { text, at: 0 }
+        begin(text, 0)
     }
 
     // The text from the next line on.

@@ -62,7 +62,7 @@ lines_grow bs i (suc j) =
     rw (e, length-append (vertex_lines bs (i + j)) (vertex_line bs (i + j))) (omega (arith, lines_grow bs i j))
 
 -- the line of vertex i, after those before it
-line_room : (bs : List ℤ) (i n : ℕ) → i < n → length (vertex_lines bs i) + length (vertex_line bs i) ≤ length (vertex_lines bs n)
+pub line_room : (bs : List ℤ) (i n : ℕ) → i < n → length (vertex_lines bs i) + length (vertex_line bs i) ≤ length (vertex_lines bs n)
 line_room bs i n h =
     let e : i + 1 + (n - (i + 1)) ≡ n = omega arith in
     omega (arith, next-length bs i, rw e at (lines_grow bs (i + 1) (n - (i + 1))))

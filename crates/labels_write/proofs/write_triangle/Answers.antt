@@ -1,6 +1,6 @@
 -- `labels_write::write_triangle` meets its contract: its three labels are stored. Assumes nothing.
 use Rattle.std.proofs.Common.{arith}
-use Rattle.labels_write.specs.Writing.{with_triangle_lem}
+use Rattle.labels_write.proofs.Rows.{with_triangle_lem}
 use Rattle.labels_write.proofs.write_triangle.Goals as goal
 
 pub returns : goal.returns

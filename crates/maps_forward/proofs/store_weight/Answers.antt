@@ -6,8 +6,8 @@ use Rattle.maps_forward.proofs.store_weight.Goals as goal
 pub origin-u-requires : goal.origin-u-requires
 origin-u-requires c = let P = c.requires in fan-word P.0.1.readable P.0.2 _ P.1
 
-pub overflow_sub-coordinates : goal.overflow_sub-coordinates
-overflow_sub-coordinates c = omega (arith, weight_in_lem c.requires.0.2)
+pub overflow_sub-w : goal.overflow_sub-w
+overflow_sub-w c = omega (arith, weight_in_lem c.requires.0.2)
 
 pub bounds-coordinates-u : goal.bounds-coordinates-u
 bounds-coordinates-u c =

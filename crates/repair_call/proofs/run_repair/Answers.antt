@@ -1,7 +1,6 @@
 -- `repair_call::run_repair` meets its contract: each way out is a law of the definition. Assumes nothing.
 use Rattle.std.specs.Result.{MatchResult}
 use Rattle.std.proofs.Common.{rules, ℕ, ◌≡◌, Ok, Err, Result, refl, sym, ◌∙◌}
-use Rattle.std.proofs.lemmas.Result.{err_from_is_err_and}
 use Rattle.mesh_answer.specs.declared.Refusal.{Refusal}
 use Rattle.mesh_answer.specs.declared.Refusal.TheVariants as Refused
 use Rattle.mesh_answer.specs.Answer.{to_answer}
@@ -11,14 +10,12 @@ use Rattle.labels_call.specs.Labelling.{labelled_accepted}
 use Rattle.repair_call.specs.CallOutcomes.{given_refusal, given_9, given_end}
 use Rattle.repair_call.proofs.run_repair.Goals as goal
 
-pub returns-in_err-label_mesh : goal.returns-in_err-label_mesh
-returns-in_err-label_mesh c =
-    let p = err_from_is_err_and c.from_residual.result c.from_residual.ensures.1 in
-    rw (p.1, p.2) (given_refusal _ _ _ _ _ _ c.requires _ _ c.in_err-label_mesh.ensures refl)
+pub returns-in-Err : goal.returns-in-Err
+returns-in-Err c = given_refusal _ _ _ _ _ _ c.requires _ _ c.in-Err.ensures refl
 
 pub returns-then-past_limit : goal.returns-then-past_limit
 returns-then-past_limit c =
-    let A = labelled_accepted _ _ _ c.label_mesh.new.scratch c.label_mesh.result c.in_ok-label_mesh.was c.label_mesh.ensures in
+    let A = labelled_accepted _ _ _ c.label_mesh.new.scratch c.label_mesh.result c.in_default.is c.label_mesh.ensures in
     given_9 _ _ _ _ _ _ c.requires A.rows (cc)
 
 -- how the loop ends, as the call answers it
@@ -29,7 +26,7 @@ answers (Err s) q e = rw e refl
 
 pub returns : goal.returns
 returns c =
-    let A = labelled_accepted _ _ _ c.label_mesh.new.scratch c.label_mesh.result c.in_ok-label_mesh.was c.label_mesh.ensures in
+    let A = labelled_accepted _ _ _ c.label_mesh.new.scratch c.label_mesh.result c.in_default.is c.label_mesh.ensures in
     let same : MatchResult c.repair_labelled.result (λ x. c.map_err.result ≡ Ok x) (λ s. c.map_err.result ≡ Err (Refused.Stopped s.raises)) =
     search rules in
     rw (← answers c.repair_labelled.result c.map_err.result same)

@@ -10,14 +10,14 @@ coordinate_at-total-requires c = search total-there
 pub raise_all-requires : goal.raise_all-requires
 raise_all-requires c =
     straight_pre _ _ _ _ _ c.requires.0 _ c.requires.1 _ (held _ c.coordinate_at-total.type_inv ∙ c.coordinate_at-total.ensures)
-    c.if-total-ge1.true
+    c.if-total-ge-LEAST_TOTAL.true
 
 pub make_first_raise-requires : goal.make_first_raise-requires
 make_first_raise-requires c =
     first_due _ _ _ _ _ c.requires.0 _ c.requires.1 _ (held _ c.coordinate_at-total.type_inv ∙ c.coordinate_at-total.ensures)
-    c.if-total-ge1.false
+    c.if-total-ge-LEAST_TOTAL.false
 
-pub returns-then-total-ge1 : goal.returns-then-total-ge1
-returns-then-total-ge1 c =
+pub returns-then-total-ge-LEAST_TOTAL : goal.returns-then-total-ge-LEAST_TOTAL
+returns-then-total-ge-LEAST_TOTAL c =
     straight _ _ _ _ _ c.requires.0 _ c.requires.1 _ (held _ c.coordinate_at-total.type_inv ∙ c.coordinate_at-total.ensures)
-    c.if-total-ge1.true _ _ _ c.raise_all.ensures
+    c.if-total-ge-LEAST_TOTAL.true _ _ _ c.raise_all.ensures

@@ -7,7 +7,8 @@ use Rattle.text_format.proofs.digit_count.Goals as goal
 pub returns-in-Some : goal.returns-in-Some
 returns-in-Some c =
     let e = c.in-Some.ensures in
-    (sym (count-log c.in-Some.k c.args.n e.power_le e.next_power_gt), omega (arith, e.bound))
+    let l = count-log c.in-Some.k c.args.n e.power_le e.next_power_gt in
+    (omega arith, omega (arith, e.bound))
 
 pub returns-in-None : goal.returns-in-None
 returns-in-None c = (sym (count-one c.args.n (omega (arith, c.in-None.ensures.none))), omega arith)

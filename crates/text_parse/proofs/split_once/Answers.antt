@@ -10,4 +10,4 @@ returns-in_err-k c = rw c.from_residual.ensures (place-none c.args.b c.args.s.no
 pub returns : goal.returns
 returns c =
     let h = place_some c.args.b c.args.s.now c.in_ok-k.k c.in_ok-k.ensures in
-    rw (from_is, add-one, ← h.1) (h.0, refl, refl)
+    rw (from_is, add-one, ← h.1) (h.0, c.front.ensures, refl)

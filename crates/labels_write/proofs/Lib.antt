@@ -1,0 +1,2 @@
+-- What the table of labels says.
+pub mod Rows
