@@ -125,7 +125,7 @@ fn finish(
 }
 
 // The whole job: the listing's length. The listing stands at the front of the buffer, and bytes past it keep what they held; a refused call leaves all of it
-// as it was. A refusal is the text's or the repair's own, with what it carries: its number and its line are all that a text is told.
+// as it was. A refusal of the text or of the repair is handed on as it is, with what it carries; where a text is given, only its number and its line are told.
 pub fn run(text: &[u8], listing: &mut [u8]) -> Result<usize, JobRefusal>
     ensures answer { job_to_answer result ≡ (outcome (run_job text.now) listing.old).answer }
     ensures listing { listing.new ≡ (outcome (run_job text.now) listing.old).buffer }
