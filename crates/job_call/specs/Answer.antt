@@ -1,5 +1,5 @@
 -- The answer of a job as document 01 states it. Definitions only.
-use Rattle.std.specs.Prelude.{ℕ, ◌≤◌, ◌≡◌, List, ℤ, Result, Ok, Err}
+use Rattle.std.specs.Prelude.{ℕ, ◌≤◌, ◌≡◌, List, Result, Ok, Err}
 use Rattle.definitions.specs.Answers.{Answer, done, refused, numbered, line_broken, number, Refusal as Told}
 use Rattle.definitions.specs.Job.{Job, repair_job}
 use Rattle.mesh_answer.specs.declared.Refusal.{Refusal}
@@ -55,10 +55,6 @@ Exact (done job) ListingLength = Unit {0}
 abbrev pub ExactEnd : Answer Job → Result ℕ JobRefusal → Type 0
 ExactEnd a (Ok k) = Unit {0}
 ExactEnd a (Err why) = Exact a why
-
--- the job on n vertices with these triangles and weights
-abbrev pub job_of : ℕ → List ℕ → List ℤ → Job
-job_of n ts ws = record { n = n; triangles = ts; weights = ws }
 
 -- what an answer and a buffer say of a listing or a refusal
 pub record Ends (a : Answer (List ℕ)) (before after : List ℕ) (r : Result ℕ JobRefusal) : Type 0 where

@@ -3,12 +3,16 @@ use Rattle.std.specs.Prelude.{ℕ, ◌≤◌, ◌≡◌, cond, List, ◌++◌, l
 use Rattle.definitions.specs.Lists.{total}
 use Rattle.definitions.specs.Mesh.{triangles_length, weights_length}
 use Rattle.definitions.specs.Answers.{Answer, done, refused, numbered}
-use Rattle.definitions.specs.Job.{repair_job, listing, told_with_text, refusal_number}
+use Rattle.definitions.specs.Job.{Job, repair_job, listing, told_with_text, refusal_number}
 
--- the job on n vertices with these triangles and weights: its listing, or its refusal
+-- the job on n vertices with these triangles and weights
+abbrev pub job_of : ℕ → List ℕ → List ℤ → Job
+job_of n ts ws = record { n = n; triangles = ts; weights = ws }
+
+-- its listing, or its refusal
 abbrev pub ran : ℕ → List ℕ → List ℤ → Answer (List ℕ)
 ran n ts ws =
-    let end = repair_job (record { n = n; triangles = ts; weights = ws }) in
+    let end = repair_job (job_of n ts ws) in
     elim end.answer [
       | refused why ↦ refused (told_with_text why)
       | done raises ↦ done (listing n (total end.weights) raises end.coordinates)

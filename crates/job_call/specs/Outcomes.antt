@@ -26,10 +26,10 @@ use Rattle.mesh_answer.specs.declared.Refusal.{Refusal as MeshRefusal}
 use Rattle.mesh_answer.specs.declared.Refusal.TheVariants.{VertexCount, SliceLength, VertexNumber, RepeatedVertex, RepeatedSide, UnpairedSide, PinchedVertex}
 use Rattle.mesh_answer.specs.declared.Refusal.TheVariants.{Disconnected, WeightLimit, CoordinateLimit, OffCorner, OffSum, Stopped, OuterTriangle}
 use Rattle.mesh_answer.specs.declared.Refusal.TheVariants.{StrayVertex, LowAboveHigh}
-use Rattle.job_call.specs.Model.{ran, Fitting, outcome, host_number}
+use Rattle.job_call.specs.Model.{job_of, ran, Fitting, outcome, host_number}
 use Rattle.job_call.specs.declared.JobRefusal.{JobRefusal}
 use Rattle.job_call.specs.declared.JobRefusal.TheVariants.{Text, Repair, ListingLength}
-use Rattle.job_call.specs.Answer.{job_to_refusal, job_to_answer, of_read, of_repair, NearLine, Near, Exact, ExactEnd, job_of, Ends}
+use Rattle.job_call.specs.Answer.{job_to_refusal, job_to_answer, NearLine, Near, Exact, ExactEnd, Ends}
 
 -- an end, clause by clause
 pub ended : {a : Answer (List ℕ)} {before after : List ℕ} {r : Result ℕ JobRefusal} → Ends a before after r →
@@ -49,27 +49,30 @@ module _ (text : List ℕ) where
 
   -- as the code hands it over: the reader's answer r, and the slices it filled
   module _ (r : Result ℕ ReadError) (vs : List ℕ) (xs : List ℤ) (read : answer_of r vs xs ≡ read_job text) where
+    is_read : (q : Result ℕ ReadError) → r ≡ q → read_job text ≡ answer_of q vs xs
+    is_read q e = sym read ∙ ap (λ x. answer_of x vs xs) e
+
     pub run-read : (why : ReadError) → r ≡ Err why → (before : List ℕ) → Ends (run_job text) before before (Err (Text why))
     unfolding told_with_text
-    run-read TooLong e before = rw (run-refused (numbered 19) (sym read ∙ ap (λ x. answer_of x vs xs) e)) (record { answer = refl; buffer = refl; line = tt })
-    run-read Size e before = rw (run-refused (numbered 1) (sym read ∙ ap (λ x. answer_of x vs xs) e)) (record { answer = refl; buffer = refl; line = tt })
+    run-read TooLong e before = rw (run-refused (numbered 19) (is_read _ e)) (record { answer = refl; buffer = refl; line = tt })
+    run-read Size e before = rw (run-refused (numbered 1) (is_read _ e)) (record { answer = refl; buffer = refl; line = tt })
     run-read (Line l) e before =
-        let q = sym read ∙ ap (λ x. answer_of x vs xs) e in
+        let q = is_read _ e in
         rw (run-refused (line_broken l) q) (record { answer = refl; buffer = refl; line = rw q at (job_fits text) })
 
     pub exact-read : (why : ReadError) → r ≡ Err why → Exact (read_job text) (Text why)
-    exact-read TooLong e = rw (sym read ∙ ap (λ x. answer_of x vs xs) e) refl
-    exact-read Size e = rw (sym read ∙ ap (λ x. answer_of x vs xs) e) refl
-    exact-read (Line l) e = rw (sym read ∙ ap (λ x. answer_of x vs xs) e) refl
+    exact-read TooLong e = rw (is_read _ e) refl
+    exact-read Size e = rw (is_read _ e) refl
+    exact-read (Line l) e = rw (is_read _ e) refl
 
     pub exact-finish : (n : ℕ) → r ≡ Ok n → (a : Result ℕ JobRefusal)
         → ExactEnd (done (job_of n (take (3 * (2 * n - 4)) vs) (take (2 * n - 5) xs))) a → ExactEnd (read_job text) a
-    exact-finish n e a h = rw (sym read ∙ ap (λ x. answer_of x vs xs) e) h
+    exact-finish n e a h = rw (is_read _ e) h
 
     pub run-finish : (n : ℕ) → r ≡ Ok n → (before after : List ℕ) (a : Result ℕ JobRefusal)
         → Ends (ran n (take (3 * (2 * n - 4)) vs) (take (2 * n - 5) xs)) before after a → Ends (run_job text) before after a
     run-finish n e before after a h =
-        rw (run-job (record { n = n; triangles = take (3 * (2 * n - 4)) vs; weights = take (2 * n - 5) xs }) (sym read ∙ ap (λ x. answer_of x vs xs) e)) h
+        rw (run-job (job_of n (take (3 * (2 * n - 4)) vs) (take (2 * n - 5) xs)) (is_read _ e)) h
 
 -- a job's size, and the parts that are lent of the slices it was read into
 module _ (r : Result ℕ ReadError) (n : ℕ) (e : r ≡ Ok n) (s : Sized r) where

@@ -6,8 +6,8 @@ ghost use Rattle.definitions.specs.Answers.{done, number};
 ghost use Rattle.definitions.specs.Mesh.{org};
 ghost use Rattle.definitions.specs.Backward.{coordinate};
 ghost use Rattle.definitions.specs.Job.{Job, listing as listing_of, read_job, run_job, line_of, host_call};
-ghost use Rattle.job_call.specs.Model.{ran, Fitting, outcome};
-ghost use Rattle.job_call.specs.Answer.{Ends, Near, ExactEnd, job_of, job_to_answer, job_to_refusal, of_read, of_repair};
+ghost use Rattle.job_call.specs.Model.{job_of, ran, Fitting, outcome};
+ghost use Rattle.job_call.specs.Answer.{Ends, Near, ExactEnd, job_to_answer, job_to_refusal, of_read, of_repair};
 
 use lent_slices::SCRATCH_WORDS;
 use mesh_answer::Refusal;
